@@ -2,9 +2,10 @@
 use mathlib.Core.Path.{_≡_, _∙_, refl, sym, ap}
 use mathlib.Core.List.{List, _++_, append-nil}
 use mathlib.Core.Logic.{inl, inr, ⊎-elim}
-use Prim.Native.Nat.{ℕ, zero, suc, _+_, _*_, _<_, _≤_}
+use Prim.Native.Nat.{ℕ, zero, suc, _+_, _*_, _^_, _<_, _≤_}
 use native.Mathlib.Numerals.{add-one}
 use native.Mathlib.Omega.{arith}
+use lib.Dec.{lit<}
 use lib.ListN.{length, getD, set, drop, replicate}
 use lib.Seq.{sets, length-sets, drop-cons, append-snoc, set-at}
 use Rattle.std.proofs.shelf.Lists.{ext-getD, length-set, getD-set-same, getD-set-other, length-replicate, drop-all, replicate-more}
@@ -13,9 +14,8 @@ use Rattle.std.proofs.shelf.Ways.{tells}
 use Rattle.std.specs.declared.option.Option.the-variants.{Some, None}
 use Rattle.std.specs.Holes.{between}
 use Rattle.store.specs.Bytes.{number, numberAt}
-use Rattle.store.specs.Stores.{Copy, Sound, unwritten, kept, cleared, unwritten-sound}
-use Rattle.store.proofs.Copies.{kept-sound-is}
-use Rattle.store.proofs.Writes.{Agree, Apart, agree-then, sets-agree, agree-between, agree-number, between-sets, number-sets}
+use Rattle.store.specs.Stores.{Copy, blank, unwritten, kept, cleared, unwritten-sound}
+use Rattle.store.proofs.Writes.{Alike, Apart, alike-then, alike-between, alike-first, sets-apart, between-sets, number-sets}
 use Rattle.slot_store.specs.Slots.{slotRefusal, slotsIn, slot, slotCopies, withSlot, clearedBelow}
 use Rattle.slot_store.specs.Meaning.{length-slots, getD-slots}
 
@@ -27,72 +27,64 @@ slots-fit blocks n e =
     omega arith
 
 -- a slot is told by its bytes
-slot-like : (m m′ : List ℕ) (i : ℕ) → Agree (i * 130) (i * 130 + 130) m m′ → i * 130 + 130 ≤ length m → slot m i ≡ slot m′ i
-slot-like m m′ i s h =
-    ap (λ v. kept v (between (i * 130 + 2) (i * 130 + 130) m)) (agree-number (i * 130) (i * 130 + 130) m m′ s (i * 130) (omega arith) (omega arith)) ∙
-    ap (kept (numberAt m′ (i * 130))) (agree-between (i * 130) (i * 130 + 130) m m′ s (i * 130 + 2) (i * 130 + 130) (omega arith) (omega arith) h)
+slot-like : (i : ℕ) {m m′ : List ℕ} → Alike 130 (i * 130) (i * 130) m m′ → slot m i ≡ slot m′ i
+slot-like i {m} {m′} s =
+    ap (λ v. kept v (between (i * 130 + 2) (i * 130 + 130) m)) (alike-first s (omega arith)) ∙
+    ap (kept (numberAt m′ (i * 130))) (alike-between s 2 130 (omega arith))
 
-module _ (m : List ℕ) (i : ℕ) (c : Copy) where
-  pub length-withSlot : length (withSlot m i c) ≡ length m
-  length-withSlot = length-sets (sets m (i * 130) (number (c .version))) (i * 130 + 2) (c .bytes) ∙ length-sets m (i * 130) (number (c .version))
+pub length-withSlot : (m : List ℕ) (i v : ℕ) (bytes : List ℕ) → length (withSlot m i v bytes) ≡ length m
+length-withSlot m i v bytes = length-sets (sets m (i * 130) (number v)) (i * 130 + 2) bytes ∙ length-sets m (i * 130) (number v)
 
-  module _ (s : Sound c) (h : i < slotsIn (length m)) where
-    room : i * 130 + 130 ≤ length m
-    room = omega arith
+module _ (m : List ℕ) (i v : ℕ) (bytes : List ℕ) (h : i < slotsIn (length m)) (f : v < 2 ^ 16) (k : length bytes ≡ 128) where
+  -- with the version alone
+  abbrev begun : List ℕ
+  begun = sets m (i * 130) (number v)
 
-    -- the filled slot holds the copy
-    slot-same : slot (withSlot m i c) i ≡ c
-    slot-same =
-        let n : List ℕ = sets m (i * 130) (number (c .version)) in
-        let z = length-sets m (i * 130) (number (c .version)) in
-        let l = s .size in
-        let r = room in
-        let v : numberAt (withSlot m i c) (i * 130) ≡ c .version =
-            agree-number (i * 130) (i * 130 + 2) (withSlot m i c) n (sets-agree (i * 130) (i * 130 + 2) n (i * 130 + 2) (c .bytes) (inl (omega arith))) (i * 130) (omega arith) (omega arith) ∙
-            number-sets m (i * 130) (c .version) (omega arith) (s .fits) in
-        let e : i * 130 + 2 + length (c .bytes) ≡ i * 130 + 130 = omega arith in
-        let b : between (i * 130 + 2) (i * 130 + 130) (withSlot m i c) ≡ c .bytes =
-            ap (λ k. between (i * 130 + 2) k (withSlot m i c)) (sym e) ∙ between-sets n (i * 130 + 2) (c .bytes) (omega arith) in
-        ap (λ x. kept x (between (i * 130 + 2) (i * 130 + 130) (withSlot m i c))) v ∙ (ap (kept (c .version)) b ∙ kept-sound-is c s)
+  -- the filled slot holds what was laid there
+  slot-same : slot (withSlot m i v bytes) i ≡ kept v bytes
+  slot-same =
+      let z = length-sets m (i * 130) (number v) in
+      let x : numberAt (withSlot m i v bytes) (i * 130) ≡ v =
+          alike-first (sets-apart {n = 2} {a = i * 130} begun (i * 130 + 2) bytes (omega arith) (inl (omega arith))) (omega arith) ∙
+          number-sets m (i * 130) v (omega arith) f in
+      let e : i * 130 + 2 + length bytes ≡ i * 130 + 130 = omega arith in
+      let b : between (i * 130 + 2) (i * 130 + 130) (withSlot m i v bytes) ≡ bytes =
+          ap (λ k. between (i * 130 + 2) k (withSlot m i v bytes)) (sym e) ∙ between-sets begun (i * 130 + 2) bytes (omega arith) in
+      ap (λ x. kept x (between (i * 130 + 2) (i * 130 + 130) (withSlot m i v bytes))) x ∙ ap (kept v) b
 
-    -- what lies apart from the slot is as it was
-    apart : (a b : ℕ) → Apart a b (i * 130) 130 → Agree a b (withSlot m i c) m
-    apart a b o =
-        let n : List ℕ = sets m (i * 130) (number (c .version)) in
-        let l = s .size in
-        agree-then a b (withSlot m i c) n m
-        (sets-agree a b n (i * 130 + 2) (c .bytes) (⊎-elim (λ p. inl (omega arith)) (λ p. inr (omega arith)) o))
-        (sets-agree a b m (i * 130) (number (c .version)) (⊎-elim (λ p. inl p) (λ p. inr (omega arith)) o))
+  -- the others hold what they held
+  slot-other : (j : ℕ) → (j ≡ i → ⊥) → j < slotsIn (length m) → slot (withSlot m i v bytes) j ≡ slot m j
+  slot-other j ne l =
+      let z = length-sets m (i * 130) (number v) in
+      let o : Apart 130 (j * 130) 130 (i * 130) =
+          ⊎-elim (λ e. absurd (ne e)) (⊎-elim (λ p. inl (omega arith)) (λ p. inr (omega arith))) (cases-order j i) in
+      slot-like j (alike-then
+        (sets-apart begun (i * 130 + 2) bytes (omega arith) (⊎-elim (λ p. inl (omega arith)) (λ p. inr (omega arith)) o))
+        (sets-apart m (i * 130) (number v) (omega arith) (⊎-elim (λ p. inl p) (λ p. inr (omega arith)) o)))
 
-    slot-other : (j : ℕ) → (j ≡ i → ⊥) → j < slotsIn (length m) → slot (withSlot m i c) j ≡ slot m j
-    slot-other j ne l =
-        let o : Apart (j * 130) (j * 130 + 130) (i * 130) 130 =
-            ⊎-elim (λ e. absurd (ne e)) (⊎-elim (λ p. inl (omega arith)) (λ p. inr (omega arith))) (cases-order j i) in
-        slot-like (withSlot m i c) m j (apart (j * 130) (j * 130 + 130) o) (omega (arith, length-withSlot))
-
-    pub slots-set : slotCopies (withSlot m i c) ≡ set (slotCopies m) i c
-    slots-set =
-        let a = length-slots m in
-        let b = length-slots (withSlot m i c) in
-        let k = length-withSlot in
-        let n : slotsIn (length (withSlot m i c)) ≡ slotsIn (length m) = ap slotsIn k in
-        ext-getD unwritten _ _ (simp length-set (b ∙ (n ∙ sym a)))
-        (λ j l.
-          let j′ : j < slotsIn (length m) = omega arith in
-          let i′ : i < length (slotCopies m) = omega arith in
-          getD-slots (withSlot m i c) j (omega arith) ∙
-          ⊎-elim
-          (λ e. rw e (slot-same ∙ sym (getD-set-same (slotCopies m) i c unwritten i′)))
-          (λ ne. slot-other j ne j′ ∙ (sym (getD-slots m j j′) ∙ sym (getD-set-other (slotCopies m) i j c unwritten ne)))
-          (cases-eq j i))
+  pub slots-set : slotCopies (withSlot m i v bytes) ≡ set (slotCopies m) i (kept v bytes)
+  slots-set =
+      let a = length-slots m in
+      let b = length-slots (withSlot m i v bytes) in
+      let l = length-withSlot m i v bytes in
+      let n : slotsIn (length (withSlot m i v bytes)) ≡ slotsIn (length m) = ap slotsIn l in
+      ext-getD unwritten _ _ (simp length-set (b ∙ (n ∙ sym a)))
+      (λ j l.
+        let j′ : j < slotsIn (length m) = omega arith in
+        let i′ : i < length (slotCopies m) = omega arith in
+        getD-slots (withSlot m i v bytes) j (omega arith) ∙
+        ⊎-elim
+        (λ e. rw e (slot-same ∙ sym (getD-set-same (slotCopies m) i (kept v bytes) unwritten i′)))
+        (λ ne. slot-other j ne j′ ∙ (sym (getD-slots m j j′) ∙ sym (getD-set-other (slotCopies m) i j (kept v bytes) unwritten ne)))
+        (cases-eq j i))
 
 -- clearing slot after slot
 module _ (m : List ℕ) where
   pub length-cleared : (n : ℕ) → length (clearedBelow n m) ≡ length m
   length-cleared zero = refl
-  length-cleared (suc n) = length-withSlot (clearedBelow n m) n unwritten ∙ length-cleared n
+  length-cleared (suc n) = length-withSlot (clearedBelow n m) n 0 blank ∙ length-cleared n
 
-  pub cleared-more : (n : ℕ) → withSlot (clearedBelow n m) n unwritten ≡ clearedBelow (n + 1) m
+  pub cleared-more : (n : ℕ) → withSlot (clearedBelow n m) n 0 blank ≡ clearedBelow (n + 1) m
   cleared-more n = ap (λ k. clearedBelow k m) (sym (add-one n))
 
   -- the first n copies are unwritten, and the others as they were
@@ -102,7 +94,7 @@ module _ (m : List ℕ) where
       let xs : List Copy = slotCopies m in
       let l : n < length xs = omega (arith, length-slots m) in
       let k : n < slotsIn (length (clearedBelow n m)) = omega (arith, length-cleared n) in
-      slots-set (clearedBelow n m) n unwritten unwritten-sound k ∙
+      slots-set (clearedBelow n m) n 0 blank k (lit< tt) (unwritten-sound .size) ∙
       (ap (λ t. set t n unwritten) (cleared-below n (omega arith)) ∙
       (ap (λ t. set (replicate n unwritten ++ t) n unwritten) (drop-cons xs n unwritten l) ∙
       (set-at (replicate n unwritten) (getD xs n unwritten) (drop (suc n) xs) unwritten n (length-replicate n unwritten) ∙

@@ -12,7 +12,7 @@ use Rattle.std.specs.declared.option.Option.the-variants.{Some, None}
 use Rattle.refusal.specs.declared.reason.Reason.the-variants.{BadSizes, WrongLength}
 use Rattle.refusal.specs.declared.refusal.Refusal.{Refusal}
 use Rattle.store.specs.Bytes.{number, numberAt}
-use Rattle.store.specs.Stores.{Copy, unwritten, kept, left, refusedAt}
+use Rattle.store.specs.Stores.{Copy, blank, kept, left, refusedAt}
 
 -- why n bytes are no store of some blocks
 abbrev pub slotRefusal : ℕ → ℕ → Option Refusal
@@ -32,18 +32,19 @@ slot m i = kept (numberAt m (i * 130)) (between (i * 130 + 2) (i * 130 + 130) m)
 unfoldable pub slotCopies : List ℕ → List Copy
 slotCopies m = map (slot m) (counting 0 (slotsIn (length m)))
 
--- memory with a copy in slot i
-abbrev pub withSlot : List ℕ → ℕ → Copy → List ℕ
-withSlot m i c = sets (sets m (i * 130) (number (c .version))) (i * 130 + 2) (c .bytes)
+-- memory with another version and block in slot i
+abbrev pub withSlot : List ℕ → ℕ → ℕ → List ℕ → List ℕ
+withSlot m i version bytes = sets (sets m (i * 130) (number version)) (i * 130 + 2) bytes
 
--- memory with the first n slots unwritten
+-- memory with version 0 and a blank block in each of the first n slots
 abbrev pub clearedBelow : ℕ → List ℕ → List ℕ
 clearedBelow zero m = m
-clearedBelow (suc n) m = withSlot (clearedBelow n m) n unwritten
+clearedBelow (suc n) m = withSlot (clearedBelow n m) n 0 blank
 
 -- memory after a write, which may be refused
 abbrev pub slotsWritten : List ℕ → ℕ → ℕ → List ℕ → List ℕ
-slotsWritten m i v block = left (length (slotCopies m)) i (length block) (withSlot m i (kept v block)) m
+slotsWritten m i version block =
+    left (length (slotCopies m)) i (length block) (withSlot m i version (kept version block .bytes)) m
 
 -- memory after clearing
 abbrev pub slotsCleared : List ℕ → List ℕ

@@ -58,7 +58,7 @@ fn put_bytes(memory: &mut [u8], at: usize, bytes: &[u8])
 fn put_slot(memory: &mut [u8], index: usize, version: u16, bytes: &[u8])
     requires index { ⌜ index < slotsIn (length (now memory)) ⌝ }
     requires bytes { ⌜ length (now bytes) ≡ 128 ⌝ }
-    ensures { λ _. ⌜ now (memory .exit) ≡ withSlot (now (memory .entry)) index (record { version = version; bytes = now (bytes .entry) }) ⌝ }
+    ensures { λ _. ⌜ now (memory .exit) ≡ withSlot (now (memory .entry)) index version (now (bytes .entry)) ⌝ }
 {
     let at = index * SLOT_LEN;
     put_bytes(memory, at, &version.to_be_bytes());
@@ -69,7 +69,7 @@ fn put_slot(memory: &mut [u8], index: usize, version: u16, bytes: &[u8])
 pub(crate) fn write_slot(memory: &mut [u8], index: usize, version: u16, block: &[u8])
     requires index { ⌜ index < slotsIn (length (now memory)) ⌝ }
     requires block { ⌜ length (now block) ≡ 128 ⌝ }
-    ensures memory { λ _. ⌜ now (memory .exit) ≡ withSlot (now (memory .entry)) index (kept version (now (block .entry))) ⌝ }
+    ensures memory { λ _. ⌜ now (memory .exit) ≡ withSlot (now (memory .entry)) index version (kept version (now (block .entry)) .bytes) ⌝ }
     ensures copies { λ _. ⌜ slotCopies (now (memory .exit)) ≡ set (slotCopies (now (memory .entry))) index (kept version (now (block .entry))) ⌝ }
 {
     put_slot(memory, index, version, kept_block(version, block));

@@ -20,20 +20,43 @@ put-is-sets m at bs h =
     (ap (λ t. take at m ++ (bs ++ t)) (drop-drop (length bs) at m) ∙
     (sym (append-assoc (take at m) bs (drop (at + length bs) m)) ∙ sym (sets-eq bs m at h)))
 
--- two memories of one size hold the same bytes from a up to b
-pub record Agree (a b : ℕ) (m m′ : List ℕ) : Type 0 where
-  pub size : length m ≡ length m′
-  pub byte : (k : ℕ) → a ≤ k → k < b → getD m k 0 ≡ getD m′ k 0
+-- the n bytes from a on of one memory are those from b on of another
+pub record Alike (n a b : ℕ) (m m′ : List ℕ) : Type 0 where
+  pub within : a + n ≤ length m
+  pub within′ : b + n ≤ length m′
+  pub byte : (k : ℕ) → k < n → getD m (a + k) 0 ≡ getD m′ (b + k) 0
 
--- [a, b) lies apart from n places from `at` on
+pub alike-then : {n a b d : ℕ} {m m′ m″ : List ℕ} → Alike n a b m m′ → Alike n b d m′ m″ → Alike n a d m m″
+alike-then p q = record { within = p .within; within′ = q .within′; byte = λ k h. p .byte k h ∙ q .byte k h }
+
+module _ {n a b : ℕ} {m m′ : List ℕ} (s : Alike n a b m m′) where
+  pub alike-between : (i j : ℕ) → j ≤ n → between (a + i) (a + j) m ≡ between (b + i) (b + j) m′
+  alike-between i j h =
+      let w = s .within in
+      let w′ = s .within′ in
+      let e = length-between m (a + i) (a + j) (omega arith) in
+      let e′ = length-between m′ (b + i) (b + j) (omega arith) in
+      ext-getD 0 _ _ (e ∙ (omega arith ∙ sym e′))
+      (λ k l.
+        getD-between m (a + i) (a + j) k 0 (omega arith) ∙
+        (ap (λ x. getD m x 0) (omega arith) ∙
+        (s .byte (i + k) (omega arith) ∙
+        (ap (λ x. getD m′ x 0) (omega arith) ∙ sym (getD-between m′ (b + i) (b + j) k 0 (omega arith))))))
+
+  pub alike-number : (i : ℕ) → i + 2 ≤ n → numberAt m (a + i) ≡ numberAt m′ (b + i)
+  alike-number i h =
+      let x = s .byte i (omega arith) in
+      let y : getD m (a + i + 1) 0 ≡ getD m′ (b + i + 1) 0 =
+          ap (λ k. getD m k 0) (omega arith) ∙ (s .byte (i + 1) (omega arith) ∙ ap (λ k. getD m′ k 0) (omega arith)) in
+      ap (λ k. (k * 256 + getD m (a + i + 1) 0) % 2 ^ 16) x ∙ ap (λ k. (getD m′ (b + i) 0 * 256 + k) % 2 ^ 16) y
+
+  -- at the start itself
+  pub alike-first : 2 ≤ n → numberAt m a ≡ numberAt m′ b
+  alike-first h = ap (numberAt m) (omega arith) ∙ (alike-number 0 h ∙ ap (numberAt m′) (omega arith))
+
+-- n places from a on lie apart from k places from `at` on
 abbrev pub Apart : ℕ → ℕ → ℕ → ℕ → Type 0
-Apart a b at n = (b ≤ at) ⊎ (at + n ≤ a)
-
-pub agree-self : (a b : ℕ) (m : List ℕ) → Agree a b m m
-agree-self a b m = record { size = refl; byte = λ k l h. refl }
-
-pub agree-then : (a b : ℕ) (m m′ m″ : List ℕ) → Agree a b m m′ → Agree a b m′ m″ → Agree a b m m″
-agree-then a b m m′ m″ p q = record { size = p .size ∙ q .size; byte = λ k l h. p .byte k l h ∙ q .byte k l h }
+Apart n a k at = (a + n ≤ at) ⊎ (at + k ≤ a)
 
 getD-sets-apart : (bs m : List ℕ) (at k : ℕ) → (k < at) ⊎ (at + length bs ≤ k) → getD (sets m at bs) k 0 ≡ getD m k 0
 getD-sets-apart [] m at k o = refl
@@ -42,25 +65,14 @@ getD-sets-apart (b ∷ bs) m at k o =
     let o′ : (k < suc at) ⊎ (suc at + length bs ≤ k) = ⊎-elim (λ l. inl (omega arith)) (λ l. inr (omega arith)) o in
     getD-sets-apart bs (set m at b) (suc at) k o′ ∙ getD-set-other m at k b 0 ne
 
-pub sets-agree : (a b : ℕ) (m : List ℕ) (at : ℕ) (bs : List ℕ) → Apart a b at (length bs) → Agree a b (sets m at bs) m
-sets-agree a b m at bs o =
+-- what lies apart stays
+pub sets-apart : {n a : ℕ} (m : List ℕ) (at : ℕ) (bs : List ℕ) → a + n ≤ length m → Apart n a (length bs) at → Alike n a a (sets m at bs) m
+sets-apart {n} {a} m at bs h o =
     record {
-      size = length-sets m at bs;
-      byte = λ k l h. getD-sets-apart bs m at k (⊎-elim (λ p. inl (omega arith)) (λ p. inr (omega arith)) o)
+      within = omega (arith, length-sets m at bs);
+      within′ = h;
+      byte = λ k l. getD-sets-apart bs m at (a + k) (⊎-elim (λ p. inl (omega arith)) (λ p. inr (omega arith)) o)
     }
-
-module _ (a b : ℕ) (m m′ : List ℕ) (s : Agree a b m m′) where
-  pub agree-between : (i j : ℕ) → a ≤ i → j ≤ b → j ≤ length m → between i j m ≡ between i j m′
-  agree-between i j l h k =
-      let e = length-between m i j k in
-      let e′ : length (between i j m′) ≡ j - i = length-between m′ i j (omega (arith, s .size)) in
-      ext-getD 0 _ _ (e ∙ sym e′)
-      (λ n o. let o′ : i + n < j = omega arith in getD-between m i j n 0 o′ ∙ (s .byte (i + n) (omega arith) (omega arith) ∙ sym (getD-between m′ i j n 0 o′)))
-
-  pub agree-number : (at : ℕ) → a ≤ at → at + 2 ≤ b → numberAt m at ≡ numberAt m′ at
-  agree-number at l h =
-      ap (λ x. (x * 256 + getD m (at + 1) 0) % 2 ^ 16) (s .byte at l (omega arith)) ∙
-      ap (λ x. (getD m′ at 0 * 256 + x) % 2 ^ 16) (s .byte (at + 1) (omega arith) (omega arith))
 
 -- what was laid is there
 pub between-sets : (m : List ℕ) (at : ℕ) (bs : List ℕ) → at + length bs ≤ length m → between at (at + length bs) (sets m at bs) ≡ bs
@@ -78,3 +90,17 @@ number-sets m at v h f =
     let y : getD (sets m at (number v)) (at + 1) 0 ≡ v % 256 = sym (getD-between (sets m at (number v)) at (at + 2) 1 0 (omega arith)) ∙ ap (λ t. getD t 1 0) s in
     let x′ : getD (sets m at (number v)) at 0 ≡ v / 256 % 256 = ap (λ k. getD (sets m at (number v)) k 0) (omega arith) ∙ x in
     omega (arith, x′, y)
+
+-- a part that was laid over another is there too
+pub sets-alike : {n : ℕ} (m : List ℕ) (a at : ℕ) → a + n ≤ length m → at + n ≤ length m → Alike n at a (sets m at (between a (a + n) m)) m
+sets-alike {n} m a at h l =
+    let bs : List ℕ = between a (a + n) m in
+    let e : length bs ≡ n = length-between m a (a + n) h ∙ omega arith in
+    let z = length-sets m at bs in
+    let s : between at (at + length bs) (sets m at bs) ≡ bs = between-sets m at bs (omega arith) in
+    record {
+      within = omega arith;
+      within′ = h;
+      byte = λ k o.
+        sym (getD-between (sets m at bs) at (at + length bs) k 0 (omega arith)) ∙ (ap (λ t. getD t k 0) s ∙ getD-between m a (a + n) k 0 (omega arith))
+    }

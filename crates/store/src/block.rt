@@ -14,8 +14,8 @@ pub const MAX_BLOCKS: usize = 256;
 /// The blank block.
 pub const BLANK: Block = [0; BLOCK_LEN];
 
-// The bytes of the blank block.
-fn blank_bytes() -> &'static [u8]
+/// The blank block, as bytes.
+pub fn blank_bytes() -> &'static [u8]
     ensures value { λ r. ⌜ now r ≡ blank ⌝ }
     ensures size { λ r. ⌜ length (now r) ≡ 128 ⌝ }
 {

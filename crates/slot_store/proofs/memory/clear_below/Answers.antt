@@ -1,19 +1,16 @@
 use mathlib.Core.Path.{_≡_, _∙_, ap}
-use Prim.Native.Nat.{_+_}
 use native.Mathlib.Omega.{arith}
-use lib.ListN.{length}
+use Rattle.store.specs.Stores.{blank}
 use Rattle.slot_store.specs.Slots.{withSlot, clearedBelow, slotCopies}
-use Rattle.store.specs.Stores.{unwritten, blank}
-use Rattle.slot_store.proofs.Filled.{length-cleared, cleared-more, cleared-all}
+use Rattle.slot_store.proofs.Filled.{cleared-more, cleared-all}
 use Rattle.slot_store.proofs.memory.clear_below.Needs as need
 
 -- one slot more: the constant is the blank block
 pub loop-index-again : need.loop-index-again
 unfolding blank
 loop-index-again c =
-    let m = c .args .memory .now in
     let i = c .loop-index .index in
-    c .put-slot .ensures ∙ (ap (λ t. withSlot t i unwritten) (c .loop-index .inv) ∙ cleared-more m i)
+    c .put-slot .ensures ∙ (ap (λ t. withSlot t i 0 blank) (c .loop-index .inv) ∙ cleared-more (c .args .memory .now) i)
 
 pub returns : need.returns
 returns c =

@@ -1,0 +1,4 @@
+pub mod Newest
+pub mod Laid
+pub mod Carrying
+pub mod Writing

@@ -1,0 +1,9 @@
+// A block store over lent memory that keeps its blocks in a log of records.
+mod compact;
+mod half;
+mod log;
+mod record;
+mod search;
+pub use half::Half;
+pub use log::LogBlocks;
+pub use log::LogStore;
