@@ -12,7 +12,8 @@ use Rattle.std.proofs.shelf.Lists.{ext-getD, length-set, getD-set-same, getD-se
 use Rattle.std.proofs.shelf.Tests.{cond-true, cond-false, cond-both, cases-eq, eq-eqb, ne-eqb, ltb-true, lt-ltb}
 use Rattle.std.proofs.shelf.Ways.{tells}
 use Rattle.std.specs.declared.option.Option.the-variants.{Some, None}
-use Rattle.store.specs.Stores.{Copy, unwritten, kept, cleared}
+use Rattle.store.specs.Stores.{Copy, unwritten, kept, kept-sound}
+use Rattle.store.proofs.Copies.{kept-again}
 use Rattle.log_store.specs.declared.half.Half.{Half}
 use Rattle.log_store.specs.Records.{indexAt, copyAt, withRecord, Carried}
 use Rattle.log_store.specs.Logs.{Log, logRefusal, roomIn, firstIn, other, started, room, blockCount, recordCount, copyOf, logCopies, carriedIn, compacted, roomy, appended, logCleared}
@@ -73,7 +74,7 @@ added-copy l i v bytes free f g k j =
       (copyIn-same m′ m from n j (λ q p. laid-other m at i v bytes h k (from + q) (λ e. omega arith) (omega (arith, in-half (l .half) m q (omega arith)))))))))
 
 module _ (l : Log) (i v : ℕ) (bytes : List ℕ) (h : i < blockCount l) (f : v < 2 ^ 16) (k : length bytes ≡ 128) where
-  pub log-written : logCopies (appended (roomy l) i v bytes) ≡ set (logCopies l) i (kept v bytes)
+  log-written : logCopies (appended (roomy l) i v bytes) ≡ set (logCopies l) i (kept v bytes)
   log-written =
       let s = roomy-is l (omega arith) in
       let l′ : Log = appended (roomy l) i v bytes in
@@ -93,6 +94,12 @@ module _ (l : Log) (i v : ℕ) (bytes : List ℕ) (h : i < blockCount l) (f : v 
           cond-false (eqb i j) (kept v bytes) (copyOf (roomy l) j) (ne-eqb i j (λ e. ne (sym e))) ∙
           (s .copy j j′ ∙ (sym (getD-log l j j′) ∙ sym (getD-set-other (logCopies l) i j (kept v bytes) unwritten ne))))
         (cases-eq j i)))
+
+-- what is written of a block is what is kept of it
+pub block-written : (l : Log) (i v : ℕ) (block : List ℕ) → i < blockCount l → v < 2 ^ 16 → length block ≡ 128 →
+    logCopies (appended (roomy l) i v (kept v block .bytes)) ≡ set (logCopies l) i (kept v block)
+block-written l i v block h f k =
+    log-written l i v (kept v block .bytes) h f (kept-sound v block f k .size) ∙ ap (set (logCopies l) i) (kept-again v block)
 
 started-none : (blocks : ℕ) (m : List ℕ) (i : ℕ) → copyOf (started blocks m) i ≡ unwritten
 started-none blocks m i = let e : min 0 (roomIn (length m)) ≡ 0 = omega arith in ap (λ n. copyIn m 0 n i) e

@@ -1,3 +1,4 @@
+pub mod Histories
 pub mod Records
 pub mod Logs
 pub mod Meaning

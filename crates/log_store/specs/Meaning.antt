@@ -12,7 +12,7 @@ use Rattle.std.proofs.shelf.Tests.{cond-both}
 use Rattle.std.specs.Holes.{between}
 use Rattle.std.specs.declared.option.Option.the-variants.{Some}
 use Rattle.store.specs.Bytes.{numberAt}
-use Rattle.store.specs.Stores.{Copy, Store, Sound, unwritten, unwritten-sound, kept-sound}
+use Rattle.store.specs.Stores.{Store, Laws, Sound, unwritten, unwritten-sound, kept-sound}
 use Rattle.log_store.specs.declared.half.Half.{Half}
 use Rattle.log_store.specs.declared.half.Half.the-variants.{First, Second}
 use Rattle.log_store.specs.Records.{indexAt, copyAt, copyFound, newest}
@@ -42,11 +42,13 @@ pub half-fits : (h : Half) (m : List ℕ) (n : ℕ) → n ≤ roomIn (length m) 
 half-fits First m n l = omega arith
 half-fits Second m n l = omega arith
 
-abbrev pub logStore : Log → Store
-logStore l = record {
-  copies = logCopies l;
+pub log-laws : (l : Log) → Laws (logCopies l)
+log-laws l = record {
   few = omega (arith, length-log l);
   sound = λ i h.
     let h′ : i < blockCount l = omega (arith, length-log l) in
     rw (getD-log l i h′) (found-sound (l .memory) (firstIn (l .memory) (l .half)) (recordCount l) i (half-fits (l .half) (l .memory) (recordCount l) (omega arith)));
 }
+
+abbrev pub logStore : Log → Store
+logStore l = record { copies = logCopies l; laws = log-laws l }

@@ -8,7 +8,7 @@ use Rattle.std.proofs.shelf.Counted.{length-map-counting, getD-map-counting}
 use Rattle.std.proofs.shelf.Edits.{length-between}
 use Rattle.std.specs.Holes.{between}
 use Rattle.store.specs.Bytes.{numberAt}
-use Rattle.store.specs.Stores.{Store, Sound, unwritten, kept-sound}
+use Rattle.store.specs.Stores.{Store, Laws, Sound, unwritten, kept-sound}
 use Rattle.slot_store.specs.Slots.{slotsIn, slot, slotCopies}
 
 pub length-slots : (m : List ℕ) → length (slotCopies m) ≡ slotsIn (length m)
@@ -27,9 +27,11 @@ pub slot-sound : (m : List ℕ) (i : ℕ) → i < slotsIn (length m) → Sound (
 slot-sound m i h =
     kept-sound (numberAt m (i * 130)) (between (i * 130 + 2) (i * 130 + 130) m) (omega arith) (length-slot m i h)
 
-abbrev pub slotStore : List ℕ → Store
-slotStore m = record {
-  copies = slotCopies m;
+pub slot-laws : (m : List ℕ) → Laws (slotCopies m)
+slot-laws m = record {
   few = omega (arith, length-slots m);
   sound = λ i h. let h′ : i < slotsIn (length m) = omega (arith, length-slots m) in rw (getD-slots m i h′) (slot-sound m i h′);
 }
+
+abbrev pub slotStore : List ℕ → Store
+slotStore m = record { copies = slotCopies m; laws = slot-laws m }

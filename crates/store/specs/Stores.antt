@@ -47,11 +47,15 @@ kept-sound v bytes h k =
     (λ e. unwritten-sound)
     (λ e. record { fits = h; size = k; none = λ z. absurd (eqb-false v 0 e z) })
 
--- what a store means: its blocks by their indices, at most 256, each sound
-pub record Store : Type 0 where
-  pub copies : List Copy
+-- the laws of a store's copies: they are at most 256, and each is sound
+pub record Laws (copies : List Copy) : Type 0 where
   pub few : length copies ≤ 256
   pub sound : (i : ℕ) → i < length copies → Sound (getD copies i unwritten)
+
+-- what a store means: its copies of the blocks, by their indices
+pub record Store : Type 0 where
+  pub copies : List Copy
+  pub laws : Laws copies
 
 abbrev pub refusedAt : Reason → ℕ → ℕ → Refusal
 refusedAt reason index n = refused reason Part (record { site = 0; block = index; length = n; offset = 0; request = 0 }) 0

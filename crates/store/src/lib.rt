@@ -2,6 +2,7 @@
 mod block;
 mod bytes;
 mod checks;
+mod history;
 mod store;
 pub use block::BLANK;
 pub use block::BLOCK_LEN;
@@ -12,4 +13,5 @@ pub use block::kept_block;
 pub use bytes::number_at;
 pub use checks::check_block;
 pub use checks::check_index;
+pub use history::last_write_is_read;
 pub use store::BlockStore;

@@ -1,0 +1,5 @@
+use Rattle.log_store.proofs.Remembering.{forgets-nothing}
+use Rattle.log_store.proofs.history.log_forgets_nothing.Needs as need
+
+pub returns : need.returns
+returns c = forgets-nothing

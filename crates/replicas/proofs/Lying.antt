@@ -1,0 +1,35 @@
+-- A site of two joined rows is a site of the first, or of the second, or none.
+use mathlib.Core.Path.{_≡_, _∙_, refl, sym, ap}
+use mathlib.Core.List.{List, [], _++_}
+use Prim.Native.Nat.{ℕ, _+_, _-_, _<_, _≤_}
+use native.Mathlib.Omega.{arith}
+use lib.ListN.{length, getD, set}
+use Rattle.std.proofs.shelf.Lists.{length-append, getD-append-left, getD-append-right, set-append-left, set-append-right, set-past}
+use Rattle.store.specs.Stores.{Copy}
+use Rattle.replicas.specs.Places.{InFirst, InSecond, InNone}
+use Rattle.replicas.specs.Rows.{Sites}
+
+module _ (p q : Sites) (s : ℕ) where
+  both : length (p ++ q) ≡ length p + length q
+  both = length-append p q
+
+  pub in-first : s < length p → InFirst p q s
+  in-first h = record {
+    here = h;
+    there = omega (arith, both);
+    same = getD-append-left p q [] s h;
+    put = λ c. sym (set-append-left p q s c h);
+  }
+
+  pub in-second : (t : ℕ) → length p + t ≡ s → t < length q → InSecond p q s t
+  in-second t e h =
+      let k : s - length p ≡ t = omega arith in
+      record {
+        here = h;
+        there = omega (arith, both);
+        same = getD-append-right p q (length p) s [] refl (omega arith) ∙ ap (λ n. getD q n []) k;
+        put = λ c. sym (set-append-right p q (length p) s c refl (omega arith) ∙ ap (λ n. p ++ set q n c) k)
+      }
+
+  pub in-none : length p + length q ≤ s → InNone p q s
+  in-none h = let l : length (p ++ q) ≤ s = omega (arith, both) in record { past = l; put = λ c. sym (set-past (p ++ q) s c l) }

@@ -1,0 +1,5 @@
+use Rattle.store.proofs.Changes.{reads-last}
+use Rattle.store.proofs.history.last_write_is_read.Needs as need
+
+pub returns : need.returns
+returns c = reads-last
