@@ -17,10 +17,18 @@ fn look<S: BlockStore>(rt: &LibcRuntime, store: &S, index: usize) -> io::Result<
     };
     let first = buffer[0];
     let last = buffer[BLOCK_LEN - 1];
-    println!(rt, "  read {index}: {number} {place}, version {version}, {first} to {last}")
+    println!(
+        rt,
+        "  read {index}: {number} {place}, version {version}, {first} to {last}"
+    )
 }
 
-fn lay<S: BlockStore>(rt: &LibcRuntime, store: &mut S, index: usize, version: u16) -> io::Result<()> {
+fn lay<S: BlockStore>(
+    rt: &LibcRuntime,
+    store: &mut S,
+    index: usize,
+    version: u16,
+) -> io::Result<()> {
     let (number, place) = told(store.write(index, version, &[7; BLOCK_LEN]));
     println!(rt, "  write {index} version {version}: {number} {place}")?;
     look(rt, store, index)
@@ -35,12 +43,20 @@ fn versions<S: BlockStore>(rt: &LibcRuntime, store: &mut S, index: usize) -> io:
 }
 
 // A buffer, and then a block, of some length: what is refused leaves them as they were.
-fn part<S: BlockStore>(rt: &LibcRuntime, store: &mut S, index: usize, bytes: &mut [u8]) -> io::Result<()> {
+fn part<S: BlockStore>(
+    rt: &LibcRuntime,
+    store: &mut S,
+    index: usize,
+    bytes: &mut [u8],
+) -> io::Result<()> {
     let length = bytes.len();
     let (number, place) = told(store.read(index, bytes));
     let first = bytes.first().copied().unwrap_or(0);
     let (other, there) = told(store.write(index, 3, bytes));
-    println!(rt, "  {length} bytes at {index}: read {number} {place}, buffer {first}, write {other} {there}")
+    println!(
+        rt,
+        "  {length} bytes at {index}: read {number} {place}, buffer {first}, write {other} {there}"
+    )
 }
 
 fn lengths<S: BlockStore>(rt: &LibcRuntime, store: &mut S, index: usize) -> io::Result<()> {

@@ -7,7 +7,9 @@ use store::BLOCK_LEN;
 use store::BlockStore;
 
 const BLOCKS: usize = 3;
+
 const RECORDS: usize = 7;
+
 const MEMORY: usize = 1848;
 
 fn is_second(half: Half) -> bool {
@@ -48,7 +50,10 @@ fn churn(rt: &LibcRuntime, log: &mut LogStore, writes: u16) -> io::Result<()> {
         }
         amiss = amiss.saturating_add(differences(log, &versions));
     }
-    println!(rt, "{writes} writes to a log: {compactions} compactions, {amiss} blocks read amiss")
+    println!(
+        rt,
+        "{writes} writes to a log: {compactions} compactions, {amiss} blocks read amiss"
+    )
 }
 
 pub(crate) fn all(rt: &LibcRuntime) -> io::Result<()> {

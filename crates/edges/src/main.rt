@@ -3,6 +3,7 @@ mod cases;
 mod churn;
 mod layout;
 mod sizes;
+
 use log_store::LogBlocks;
 use log_store::LogStore;
 use slot_store::SlotBlocks;

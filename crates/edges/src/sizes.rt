@@ -45,7 +45,10 @@ pub(crate) fn told(outcome: Result<(), Refusal>) -> (u8, usize) {
 fn slots(rt: &LibcRuntime) -> io::Result<()> {
     for (blocks, bytes) in SLOTS {
         let (number, place) = told(SlotStore::check(blocks, bytes));
-        println!(rt, "slots for {blocks} blocks in {bytes} bytes: {number} {place}")?;
+        println!(
+            rt,
+            "slots for {blocks} blocks in {bytes} bytes: {number} {place}"
+        )?;
     }
     Ok(())
 }
@@ -53,7 +56,10 @@ fn slots(rt: &LibcRuntime) -> io::Result<()> {
 fn logs(rt: &LibcRuntime) -> io::Result<()> {
     for (blocks, records, bytes) in LOGS {
         let (number, place) = told(LogStore::check(blocks, records, bytes));
-        println!(rt, "log for {blocks} blocks with {records} records in {bytes} bytes: {number} {place}")?;
+        println!(
+            rt,
+            "log for {blocks} blocks with {records} records in {bytes} bytes: {number} {place}"
+        )?;
     }
     Ok(())
 }

@@ -108,10 +108,10 @@ module _ (m : List ℕ) (h : Half) (n : ℕ) (u : n ≤ roomIn (length m)) where
     few = omega (arith, s .few);
     old = s .old;
     new = λ i.
-      ⊎-elim
-      (λ q. rw q (s .new k ∙ (cond-false (ltb k k) (copyIn m from n k) unwritten (le-ltb k k (omega arith)) ∙ (e ∙ sym (cond-true (ltb k (suc k)) (copyIn m from n k) unwritten (lt-ltb k (suc k) (omega arith)))))))
-      (λ ne. s .new i ∙ ap (λ b. cond b (copyIn m from n i) unwritten) (below-next i k ne))
-      (cases-eq i k);
+        ⊎-elim
+        (λ q. rw q (s .new k ∙ (cond-false (ltb k k) (copyIn m from n k) unwritten (le-ltb k k (omega arith)) ∙ (e ∙ sym (cond-true (ltb k (suc k)) (copyIn m from n k) unwritten (lt-ltb k (suc k) (omega arith)))))))
+        (λ ne. s .new i ∙ ap (λ b. cond b (copyIn m from n i) unwritten) (below-next i k ne))
+        (cases-eq i k);
   }
   carries-one k c l s (Some r) f e =
       let z = s .size in
@@ -126,23 +126,23 @@ module _ (m : List ℕ) (h : Half) (n : ℕ) (u : n ≤ roomIn (length m)) where
         size = length-withCopied (c .memory) r at ∙ z;
         few = omega arith;
         old = λ q p.
-          let t = copied-other (c .memory) r at b a (from + q) (halves-apart h m q (c .count) (omega arith) (omega arith)) (omega (arith, in-half h m q (omega arith))) in
-          let t′ = s .old q p in
-          record { index = t .index ∙ t′ .index; copy = t .copy ∙ t′ .copy };
+            let t = copied-other (c .memory) r at b a (from + q) (halves-apart h m q (c .count) (omega arith) (omega arith)) (omega (arith, in-half h m q (omega arith))) in
+            let t′ = s .old q p in
+            record { index = t .index ∙ t′ .index; copy = t .copy ∙ t′ .copy };
         new = λ i.
-          let below : copyIn m′ to (c .count) i ≡ cond (ltb i k) (copyIn m from n i) unwritten =
-              copyIn-same m′ (c .memory) to (c .count) i (λ q p. copied-other (c .memory) r at b a (to + q) (λ x. omega arith) (omega (arith, in-half (other h) m q (omega arith)))) ∙ s .new i in
-          let x : indexAt m′ at ≡ k = same .index ∙ f .index in
-          ap (λ t. copyIn m′ to t i) (add-one (c .count)) ∙
-          (copyIn-suc m′ to (c .count) i ∙
-          ⊎-elim
-          (λ q.
+            let below : copyIn m′ to (c .count) i ≡ cond (ltb i k) (copyIn m from n i) unwritten =
+            copyIn-same m′ (c .memory) to (c .count) i (λ q p. copied-other (c .memory) r at b a (to + q) (λ x. omega arith) (omega (arith, in-half (other h) m q (omega arith)))) ∙ s .new i in
+            let x : indexAt m′ at ≡ k = same .index ∙ f .index in
+            ap (λ t. copyIn m′ to t i) (add-one (c .count)) ∙
+            (copyIn-suc m′ to (c .count) i ∙
+            ⊎-elim
+            (λ q.
             cond-true (eqb (indexAt m′ at) i) (copyAt m′ at) (copyIn m′ to (c .count) i) (eq-eqb (indexAt m′ at) i (x ∙ sym q)) ∙
             (same .copy ∙ (e ∙ (ap (copyIn m from n) (sym q) ∙ sym (cond-true (ltb i (suc k)) (copyIn m from n i) unwritten (lt-ltb i (suc k) (omega arith)))))))
-          (λ ne.
+            (λ ne.
             cond-false (eqb (indexAt m′ at) i) (copyAt m′ at) (copyIn m′ to (c .count) i) (ne-eqb (indexAt m′ at) i (λ y. ne (sym (sym x ∙ y)))) ∙
             (below ∙ ap (λ b. cond b (copyIn m from n i) unwritten) (below-next i k ne)))
-          (cases-eq i k));
+            (cases-eq i k));
       }
 
   pub carries : (k : ℕ) → k ≤ roomIn (length m) → Carries k (carriedIn m h n k)

@@ -24,8 +24,8 @@ same-like : (r q : ℕ) {m m′ : List ℕ} → Alike 132 (r * 132) (q * 132) m 
 same-like r q {m} {m′} s = record {
   index = alike-first s (omega arith);
   copy =
-    ap (λ v. kept v (between (r * 132 + 4) (r * 132 + 132) m)) (alike-number s 2 (omega arith)) ∙
-    ap (kept (numberAt m′ (q * 132 + 2))) (alike-between s 4 132 (omega arith));
+      ap (λ v. kept v (between (r * 132 + 4) (r * 132 + 132) m)) (alike-number s 2 (omega arith)) ∙
+      ap (kept (numberAt m′ (q * 132 + 2))) (alike-between s 4 132 (omega arith));
 }
 
 -- two records lie apart
@@ -52,8 +52,8 @@ module _ (m : List ℕ) (r i v : ℕ) (bytes : List ℕ) where
         let z = length-sets m (r * 132) (number i) in
         let y = length-headed in
         alike-first (alike-then
-          (sets-apart {n = 2} {a = r * 132} headed (r * 132 + 4) bytes (omega arith) (inl (omega arith)))
-          (sets-apart {n = 2} {a = r * 132} begun (r * 132 + 2) (number v) (omega arith) (inl (omega arith)))) (omega arith) ∙
+        (sets-apart {n = 2} {a = r * 132} headed (r * 132 + 4) bytes (omega arith) (inl (omega arith)))
+        (sets-apart {n = 2} {a = r * 132} begun (r * 132 + 2) (number v) (omega arith) (inl (omega arith)))) (omega arith) ∙
         number-sets m (r * 132) i (omega arith) f
 
     pub laid-copy : v < 2 ^ 16 → copyAt (withRecord m r i v bytes) r ≡ kept v bytes
@@ -61,11 +61,11 @@ module _ (m : List ℕ) (r i v : ℕ) (bytes : List ℕ) where
         let z = length-sets m (r * 132) (number i) in
         let y = length-headed in
         let x : numberAt (withRecord m r i v bytes) (r * 132 + 2) ≡ v =
-            alike-first (sets-apart {n = 2} {a = r * 132 + 2} headed (r * 132 + 4) bytes (omega arith) (inl (omega arith))) (omega arith) ∙
-            number-sets begun (r * 132 + 2) v (omega arith) f in
+        alike-first (sets-apart {n = 2} {a = r * 132 + 2} headed (r * 132 + 4) bytes (omega arith) (inl (omega arith))) (omega arith) ∙
+        number-sets begun (r * 132 + 2) v (omega arith) f in
         let e : r * 132 + 4 + length bytes ≡ r * 132 + 132 = omega arith in
         let b : between (r * 132 + 4) (r * 132 + 132) (withRecord m r i v bytes) ≡ bytes =
-            ap (λ k. between (r * 132 + 4) k (withRecord m r i v bytes)) (sym e) ∙ between-sets headed (r * 132 + 4) bytes (omega arith) in
+        ap (λ k. between (r * 132 + 4) k (withRecord m r i v bytes)) (sym e) ∙ between-sets headed (r * 132 + 4) bytes (omega arith) in
         ap (λ t. kept t (between (r * 132 + 4) (r * 132 + 132) (withRecord m r i v bytes))) x ∙ ap (kept v) b
 
     pub laid-other : (q : ℕ) → (q ≡ r → ⊥) → q * 132 + 132 ≤ length m → Same (withRecord m r i v bytes) m q q
@@ -74,10 +74,10 @@ module _ (m : List ℕ) (r i v : ℕ) (bytes : List ℕ) where
         let y = length-headed in
         let o = apart q r ne in
         same-like q q (alike-then
-          (sets-apart headed (r * 132 + 4) bytes (omega arith) (⊎-elim (λ p. inl (omega arith)) (λ p. inr (omega arith)) o))
-          (alike-then
-            (sets-apart begun (r * 132 + 2) (number v) (omega arith) (⊎-elim (λ p. inl (omega arith)) (λ p. inr (omega arith)) o))
-            (sets-apart m (r * 132) (number i) l (⊎-elim (λ p. inl p) (λ p. inr (omega arith)) o))))
+        (sets-apart headed (r * 132 + 4) bytes (omega arith) (⊎-elim (λ p. inl (omega arith)) (λ p. inr (omega arith)) o))
+        (alike-then
+        (sets-apart begun (r * 132 + 2) (number v) (omega arith) (⊎-elim (λ p. inl (omega arith)) (λ p. inr (omega arith)) o))
+        (sets-apart m (r * 132) (number i) l (⊎-elim (λ p. inl p) (λ p. inr (omega arith)) o))))
 
 module _ (m : List ℕ) (q r : ℕ) where
   pub length-withCopied : length (withCopied m q r) ≡ length m

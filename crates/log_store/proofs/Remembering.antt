@@ -14,7 +14,7 @@ use Rattle.log_store.proofs.Writing.{block-written, log-started, sizes-fit}
 copies-written : (l : Log) (i v : ℕ) (block : List ℕ) → v < 2 ^ 16 → logCopies (logWritten l i v block) ≡ written (logCopies l) i v block
 copies-written l i v block f =
     left-through logCopies (blockCount l) i (length block) (appended (roomy l) i v (kept v block .bytes)) l (set (logCopies l) i (kept v block))
-      (λ h k. block-written l i v block h f k) ∙
+    (λ h k. block-written l i v block h f k) ∙
     ap (λ n. left n i (length block) (set (logCopies l) i (kept v block)) (logCopies l)) (sym (length-log l))
 
 pub copies-cleared : (l : Log) → logCopies (logCleared l) ≡ cleared (logCopies l)
@@ -30,5 +30,5 @@ pub forgets-nothing : LogForgetsNothing
 forgets-nothing blocks records m e history f i h =
     let z = sizes-fit blocks records (length m) (sym e) in
     let s : copiesAfter (replicate blocks unwritten) history ≡ logCopies (logAfter (started blocks m) history) =
-        sym (copies-after (started blocks m) history f ∙ ap (λ t. copiesAfter t history) (log-started blocks m blocks (z .1))) in
+    sym (copies-after (started blocks m) history f ∙ ap (λ t. copiesAfter t history) (log-started blocks m blocks (z .1))) in
     subst (λ t. Reads t i (lastWritten history i)) s (reads-last blocks history i h)

@@ -41,9 +41,9 @@ compacted-roomy l one =
       blocks = refl;
       free = omega arith;
       copy = λ i h.
-        ap (λ k. copyIn (c .memory) (firstIn (c .memory) (other (l .half))) k i) n ∙
-        (ap (λ f. copyIn (c .memory) f (c .count) i) (first-like (other (l .half)) (c .memory) m (s .size)) ∙
-        (s .new i ∙ cond-true (ltb i (blockCount l)) (copyOf l i) unwritten (lt-ltb i (blockCount l) h)))
+          ap (λ k. copyIn (c .memory) (firstIn (c .memory) (other (l .half))) k i) n ∙
+          (ap (λ f. copyIn (c .memory) f (c .count) i) (first-like (other (l .half)) (c .memory) m (s .size)) ∙
+          (s .new i ∙ cond-true (ltb i (blockCount l)) (copyOf l i) unwritten (lt-ltb i (blockCount l) h)));
     }
 
 pub roomy-is : (l : Log) → 1 < room l → Roomy l (roomy l)
@@ -71,7 +71,7 @@ added-copy l i v bytes free f g k j =
     (ap (λ t. cond (eqb t j) (copyAt m′ at) (copyIn m′ from n j)) (laid-index m at i v bytes h k f) ∙
     (ap (λ t. cond (eqb i j) t (copyIn m′ from n j)) (laid-copy m at i v bytes h k g) ∙
     ap (cond (eqb i j) (kept v bytes))
-      (copyIn-same m′ m from n j (λ q p. laid-other m at i v bytes h k (from + q) (λ e. omega arith) (omega (arith, in-half (l .half) m q (omega arith)))))))))
+    (copyIn-same m′ m from n j (λ q p. laid-other m at i v bytes h k (from + q) (λ e. omega arith) (omega (arith, in-half (l .half) m q (omega arith)))))))))
 
 module _ (l : Log) (i v : ℕ) (bytes : List ℕ) (h : i < blockCount l) (f : v < 2 ^ 16) (k : length bytes ≡ 128) where
   log-written : logCopies (appended (roomy l) i v bytes) ≡ set (logCopies l) i (kept v bytes)
@@ -84,16 +84,16 @@ module _ (l : Log) (i v : ℕ) (bytes : List ℕ) (h : i < blockCount l) (f : v 
       let y = length-log l′ in
       ext-getD unwritten _ _ (simp length-set (y ∙ (b ∙ sym x)))
       (λ j o.
-        let j′ : j < blockCount l = omega arith in
-        let i′ : i < length (logCopies l) = omega arith in
-        getD-log l′ j (omega arith) ∙
-        (added-copy (roomy l) i v bytes (s .free) (omega arith) f k j ∙
-        ⊎-elim
-        (λ e. cond-true (eqb i j) (kept v bytes) (copyOf (roomy l) j) (eq-eqb i j (sym e)) ∙ sym (ap (λ t. getD (set (logCopies l) i (kept v bytes)) t unwritten) e ∙ getD-set-same (logCopies l) i (kept v bytes) unwritten i′))
-        (λ ne.
-          cond-false (eqb i j) (kept v bytes) (copyOf (roomy l) j) (ne-eqb i j (λ e. ne (sym e))) ∙
-          (s .copy j j′ ∙ (sym (getD-log l j j′) ∙ sym (getD-set-other (logCopies l) i j (kept v bytes) unwritten ne))))
-        (cases-eq j i)))
+      let j′ : j < blockCount l = omega arith in
+      let i′ : i < length (logCopies l) = omega arith in
+      getD-log l′ j (omega arith) ∙
+      (added-copy (roomy l) i v bytes (s .free) (omega arith) f k j ∙
+      ⊎-elim
+      (λ e. cond-true (eqb i j) (kept v bytes) (copyOf (roomy l) j) (eq-eqb i j (sym e)) ∙ sym (ap (λ t. getD (set (logCopies l) i (kept v bytes)) t unwritten) e ∙ getD-set-same (logCopies l) i (kept v bytes) unwritten i′))
+      (λ ne.
+      cond-false (eqb i j) (kept v bytes) (copyOf (roomy l) j) (ne-eqb i j (λ e. ne (sym e))) ∙
+      (s .copy j j′ ∙ (sym (getD-log l j j′) ∙ sym (getD-set-other (logCopies l) i j (kept v bytes) unwritten ne))))
+      (cases-eq j i)))
 
 -- what is written of a block is what is kept of it
 pub block-written : (l : Log) (i v : ℕ) (block : List ℕ) → i < blockCount l → v < 2 ^ 16 → length block ≡ 128 →
@@ -109,8 +109,8 @@ log-started blocks m n e =
     let x = length-log (started blocks m) in
     ext-getD unwritten _ _ (x ∙ (e ∙ sym (length-replicate n unwritten)))
     (λ i h.
-      let i′ : i < blockCount (started blocks m) = omega arith in
-      getD-log (started blocks m) i i′ ∙ (started-none blocks m i ∙ sym (getD-replicate n i unwritten unwritten (omega arith))))
+    let i′ : i < blockCount (started blocks m) = omega arith in
+    getD-log (started blocks m) i i′ ∙ (started-none blocks m i ∙ sym (getD-replicate n i unwritten unwritten (omega arith))))
 
 -- memory that is not refused has the sizes that were asked for
 pub sizes-fit : (blocks records n : ℕ) → None ≡ logRefusal blocks records n → (roomIn n ≡ records) × (min (min blocks (roomIn n - 1)) 256 ≡ blocks)

@@ -46,8 +46,8 @@ pub log-laws : (l : Log) → Laws (logCopies l)
 log-laws l = record {
   few = omega (arith, length-log l);
   sound = λ i h.
-    let h′ : i < blockCount l = omega (arith, length-log l) in
-    rw (getD-log l i h′) (found-sound (l .memory) (firstIn (l .memory) (l .half)) (recordCount l) i (half-fits (l .half) (l .memory) (recordCount l) (omega arith)));
+      let h′ : i < blockCount l = omega (arith, length-log l) in
+      rw (getD-log l i h′) (found-sound (l .memory) (firstIn (l .memory) (l .half)) (recordCount l) i (half-fits (l .half) (l .memory) (recordCount l) (omega arith)));
 }
 
 abbrev pub logStore : Log → Store

@@ -5,6 +5,7 @@ mod history;
 mod log;
 mod record;
 mod search;
+
 pub use half::Half;
 pub use history::log_forgets_nothing;
 pub use log::LogBlocks;

@@ -33,7 +33,10 @@ pub(crate) fn record_block(memory: &[u8], at: usize) -> &[u8]
     ensures size { λ r. ⌜ length (now r) ≡ 128 ⌝ }
 {
     let from = at * RECORD_LEN;
-    kept_block(number_at(memory, from + 2), &memory[from + 4..from + RECORD_LEN])
+    kept_block(
+        number_at(memory, from + 2),
+        &memory[from + 4..from + RECORD_LEN],
+    )
 }
 
 // Lays bytes from a place on.

@@ -10,7 +10,7 @@ use crate::half::Half;
 use crate::record::record_block;
 use crate::record::record_index;
 use crate::record::record_version;
-use store::blank_bytes;
+use store::kept_block;
 
 // Whether record `at` from `first` on has the index, and so is the newest one up to there.
 fn has_index(memory: &[u8], first: usize, at: usize, index: usize) -> bool
@@ -54,6 +54,6 @@ pub(crate) fn newest_block(memory: &[u8], half: Half, used: usize, index: usize)
 {
     match newest_record(memory, half, used, index) {
         Some(at) => record_block(memory, at),
-        None => blank_bytes(),
+        None => kept_block(0, &[]),
     }
 }

@@ -3,6 +3,7 @@ mod layer;
 mod reason;
 mod refusal;
 mod rejected;
+
 pub use layer::Layer;
 pub use reason::PlaceKind;
 pub use reason::Reason;

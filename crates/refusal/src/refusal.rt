@@ -18,6 +18,11 @@ impl Refusal {
     pub fn new(reason: Reason, layer: Layer, place: usize) -> Refusal
         ensures { λ r. ⌜ r ≡ record { reason = reason; layer = layer; place = place; messages = 0 } ⌝ }
     {
-        Refusal { reason, layer, place, messages: 0 }
+        Refusal {
+            reason,
+            layer,
+            place,
+            messages: 0,
+        }
     }
 }

@@ -28,7 +28,7 @@ module _ (p q : Sites) (s : ℕ) where
         here = h;
         there = omega (arith, both);
         same = getD-append-right p q (length p) s [] refl (omega arith) ∙ ap (λ n. getD q n []) k;
-        put = λ c. sym (set-append-right p q (length p) s c refl (omega arith) ∙ ap (λ n. p ++ set q n c) k)
+        put = λ c. sym (set-append-right p q (length p) s c refl (omega arith) ∙ ap (λ n. p ++ set q n c) k);
       }
 
   pub in-none : length p + length q ≤ s → InNone p q s

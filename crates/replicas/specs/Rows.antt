@@ -79,8 +79,8 @@ both-laws p q s h =
     ⊎-elim
     (λ l. rw (getD-append-left (p .sites) (q .sites) [] s l) (p .laws s l))
     (λ l.
-      let k : s - length (p .sites) < length (q .sites) = omega (arith, length-append (p .sites) (q .sites)) in
-      rw (getD-append-right (p .sites) (q .sites) (length (p .sites)) s [] refl l) (q .laws (s - length (p .sites)) k))
+    let k : s - length (p .sites) < length (q .sites) = omega (arith, length-append (p .sites) (q .sites)) in
+    rw (getD-append-right (p .sites) (q .sites) (length (p .sites)) s [] refl l) (q .laws (s - length (p .sites)) k))
     (cases-lt s (length (p .sites)))
 
 -- one store is a row of one

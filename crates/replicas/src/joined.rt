@@ -51,7 +51,9 @@ impl<P: Replicas, Q: Replicas> Joined<P, Q> {
     fn sites(&self) -> usize
         ensures { λ r. ⌜ r ≡ min (length (P·Replicas .row (now (self .entry) .first) .sites ++ Q·Replicas .row (now (self .entry) .second) .sites)) (2 ^ 64 - 1) ⌝ }
     {
-        self.first.site_count().saturating_add(self.second.site_count())
+        self.first
+            .site_count()
+            .saturating_add(self.second.site_count())
     }
 }
 
@@ -92,7 +94,13 @@ pub impl<P: Replicas, Q: Replicas> Replicas for Joined<P, Q> as JoinedReplicas {
         }
     }
 
-    fn write(&mut self, site: usize, index: usize, version: u16, block: &[u8]) -> Result<(), Refusal> {
+    fn write(
+        &mut self,
+        site: usize,
+        index: usize,
+        version: u16,
+        block: &[u8],
+    ) -> Result<(), Refusal> {
         match self.place(site) {
             Place::First => self.first.write(site, index, version, block),
             Place::Second(rest) => self.second.write(rest, index, version, block),

@@ -26,7 +26,13 @@ pub trait Replicas {
         ensures buffer { λ _. ⌜ now (buffer .exit) ≡ readBuffer (row (now (self .entry)) .sites) site index (now (buffer .entry)) ⌝ };
 
     /// Lays a block with a version at a site.
-    fn write(&mut self, site: usize, index: usize, version: u16, block: &[u8]) -> Result<(), Refusal>
+    fn write(
+        &mut self,
+        site: usize,
+        index: usize,
+        version: u16,
+        block: &[u8],
+    ) -> Result<(), Refusal>
         ensures answer { λ r. ⌜ r ≡ writeAnswer (row (now (self .entry)) .sites) site index (length (now (block .entry))) ⌝ }
         ensures after { λ _. ⌜ row (now (self .exit)) .sites ≡ written (row (now (self .entry)) .sites) site index version (now (block .entry)) ⌝ };
 

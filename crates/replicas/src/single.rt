@@ -44,7 +44,13 @@ pub impl<S: BlockStore> Replicas for Single<S> as SingleReplicas {
         self.store.read(index, buffer)
     }
 
-    fn write(&mut self, site: usize, index: usize, version: u16, block: &[u8]) -> Result<(), Refusal> {
+    fn write(
+        &mut self,
+        site: usize,
+        index: usize,
+        version: u16,
+        block: &[u8],
+    ) -> Result<(), Refusal> {
         check_only(site)?;
         self.store.write(index, version, block)
     }

@@ -45,11 +45,11 @@ module _ (m : List ℕ) (i v : ℕ) (bytes : List ℕ) (h : i < slotsIn (length 
   slot-same =
       let z = length-sets m (i * 130) (number v) in
       let x : numberAt (withSlot m i v bytes) (i * 130) ≡ v =
-          alike-first (sets-apart {n = 2} {a = i * 130} begun (i * 130 + 2) bytes (omega arith) (inl (omega arith))) (omega arith) ∙
-          number-sets m (i * 130) v (omega arith) f in
+      alike-first (sets-apart {n = 2} {a = i * 130} begun (i * 130 + 2) bytes (omega arith) (inl (omega arith))) (omega arith) ∙
+      number-sets m (i * 130) v (omega arith) f in
       let e : i * 130 + 2 + length bytes ≡ i * 130 + 130 = omega arith in
       let b : between (i * 130 + 2) (i * 130 + 130) (withSlot m i v bytes) ≡ bytes =
-          ap (λ k. between (i * 130 + 2) k (withSlot m i v bytes)) (sym e) ∙ between-sets begun (i * 130 + 2) bytes (omega arith) in
+      ap (λ k. between (i * 130 + 2) k (withSlot m i v bytes)) (sym e) ∙ between-sets begun (i * 130 + 2) bytes (omega arith) in
       ap (λ x. kept x (between (i * 130 + 2) (i * 130 + 130) (withSlot m i v bytes))) x ∙ ap (kept v) b
 
   -- the others hold what they held
@@ -57,10 +57,10 @@ module _ (m : List ℕ) (i v : ℕ) (bytes : List ℕ) (h : i < slotsIn (length 
   slot-other j ne l =
       let z = length-sets m (i * 130) (number v) in
       let o : Apart 130 (j * 130) 130 (i * 130) =
-          ⊎-elim (λ e. absurd (ne e)) (⊎-elim (λ p. inl (omega arith)) (λ p. inr (omega arith))) (cases-order j i) in
+      ⊎-elim (λ e. absurd (ne e)) (⊎-elim (λ p. inl (omega arith)) (λ p. inr (omega arith))) (cases-order j i) in
       slot-like j (alike-then
-        (sets-apart begun (i * 130 + 2) bytes (omega arith) (⊎-elim (λ p. inl (omega arith)) (λ p. inr (omega arith)) o))
-        (sets-apart m (i * 130) (number v) (omega arith) (⊎-elim (λ p. inl p) (λ p. inr (omega arith)) o)))
+      (sets-apart begun (i * 130 + 2) bytes (omega arith) (⊎-elim (λ p. inl (omega arith)) (λ p. inr (omega arith)) o))
+      (sets-apart m (i * 130) (number v) (omega arith) (⊎-elim (λ p. inl p) (λ p. inr (omega arith)) o)))
 
   pub slots-set : slotCopies (withSlot m i v bytes) ≡ set (slotCopies m) i (kept v bytes)
   slots-set =
@@ -70,13 +70,13 @@ module _ (m : List ℕ) (i v : ℕ) (bytes : List ℕ) (h : i < slotsIn (length 
       let n : slotsIn (length (withSlot m i v bytes)) ≡ slotsIn (length m) = ap slotsIn l in
       ext-getD unwritten _ _ (simp length-set (b ∙ (n ∙ sym a)))
       (λ j l.
-        let j′ : j < slotsIn (length m) = omega arith in
-        let i′ : i < length (slotCopies m) = omega arith in
-        getD-slots (withSlot m i v bytes) j (omega arith) ∙
-        ⊎-elim
-        (λ e. rw e (slot-same ∙ sym (getD-set-same (slotCopies m) i (kept v bytes) unwritten i′)))
-        (λ ne. slot-other j ne j′ ∙ (sym (getD-slots m j j′) ∙ sym (getD-set-other (slotCopies m) i j (kept v bytes) unwritten ne)))
-        (cases-eq j i))
+      let j′ : j < slotsIn (length m) = omega arith in
+      let i′ : i < length (slotCopies m) = omega arith in
+      getD-slots (withSlot m i v bytes) j (omega arith) ∙
+      ⊎-elim
+      (λ e. rw e (slot-same ∙ sym (getD-set-same (slotCopies m) i (kept v bytes) unwritten i′)))
+      (λ ne. slot-other j ne j′ ∙ (sym (getD-slots m j j′) ∙ sym (getD-set-other (slotCopies m) i j (kept v bytes) unwritten ne)))
+      (cases-eq j i))
 
 -- clearing slot after slot
 module _ (m : List ℕ) where

@@ -60,7 +60,10 @@ impl<'a> SlotStore<'a> {
     {
         match check_memory(blocks, memory) {
             Ok(()) => Ok(SlotStore { memory }),
-            Err(refusal) => Err(Rejected { refusal, given: memory }),
+            Err(refusal) => Err(Rejected {
+                refusal,
+                given: memory,
+            }),
         }
     }
 }

@@ -54,7 +54,7 @@ reads-as copies i c h e =
     let t = lt-ltb i (length copies) h in
     record {
       version = cond-true (ltb i (length copies)) _ _ t ∙ ap (λ x. Ok (x .version)) e;
-      block = λ buffer k. cond-true (ltb i (length copies)) _ _ t ∙ (cond-true (eqb (length buffer) 128) _ _ (eq-eqb (length buffer) 128 k) ∙ ap (λ x. x .bytes) e)
+      block = λ buffer k. cond-true (ltb i (length copies)) _ _ t ∙ (cond-true (eqb (length buffer) 128) _ _ (eq-eqb (length buffer) 128 k) ∙ ap (λ x. x .bytes) e);
     }
 
 module _ (blocks : ℕ) where

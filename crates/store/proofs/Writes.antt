@@ -38,16 +38,16 @@ module _ {n a b : ℕ} {m m′ : List ℕ} (s : Alike n a b m m′) where
       let e′ = length-between m′ (b + i) (b + j) (omega arith) in
       ext-getD 0 _ _ (e ∙ (omega arith ∙ sym e′))
       (λ k l.
-        getD-between m (a + i) (a + j) k 0 (omega arith) ∙
-        (ap (λ x. getD m x 0) (omega arith) ∙
-        (s .byte (i + k) (omega arith) ∙
-        (ap (λ x. getD m′ x 0) (omega arith) ∙ sym (getD-between m′ (b + i) (b + j) k 0 (omega arith))))))
+      getD-between m (a + i) (a + j) k 0 (omega arith) ∙
+      (ap (λ x. getD m x 0) (omega arith) ∙
+      (s .byte (i + k) (omega arith) ∙
+      (ap (λ x. getD m′ x 0) (omega arith) ∙ sym (getD-between m′ (b + i) (b + j) k 0 (omega arith))))))
 
   pub alike-number : (i : ℕ) → i + 2 ≤ n → numberAt m (a + i) ≡ numberAt m′ (b + i)
   alike-number i h =
       let x = s .byte i (omega arith) in
       let y : getD m (a + i + 1) 0 ≡ getD m′ (b + i + 1) 0 =
-          ap (λ k. getD m k 0) (omega arith) ∙ (s .byte (i + 1) (omega arith) ∙ ap (λ k. getD m′ k 0) (omega arith)) in
+      ap (λ k. getD m k 0) (omega arith) ∙ (s .byte (i + 1) (omega arith) ∙ ap (λ k. getD m′ k 0) (omega arith)) in
       ap (λ k. (k * 256 + getD m (a + i + 1) 0) % 2 ^ 16) x ∙ ap (λ k. (getD m′ (b + i) 0 * 256 + k) % 2 ^ 16) y
 
   -- at the start itself
@@ -71,7 +71,7 @@ sets-apart {n} {a} m at bs h o =
     record {
       within = omega (arith, length-sets m at bs);
       within′ = h;
-      byte = λ k l. getD-sets-apart bs m at (a + k) (⊎-elim (λ p. inl (omega arith)) (λ p. inr (omega arith)) o)
+      byte = λ k l. getD-sets-apart bs m at (a + k) (⊎-elim (λ p. inl (omega arith)) (λ p. inr (omega arith)) o);
     }
 
 -- what was laid is there
@@ -102,5 +102,5 @@ sets-alike {n} m a at h l =
       within = omega arith;
       within′ = h;
       byte = λ k o.
-        sym (getD-between (sets m at bs) at (at + length bs) k 0 (omega arith)) ∙ (ap (λ t. getD t k 0) s ∙ getD-between m a (a + n) k 0 (omega arith))
+          sym (getD-between (sets m at bs) at (at + length bs) k 0 (omega arith)) ∙ (ap (λ t. getD t k 0) s ∙ getD-between m a (a + n) k 0 (omega arith));
     }

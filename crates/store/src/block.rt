@@ -14,8 +14,8 @@ pub const MAX_BLOCKS: usize = 256;
 /// The blank block.
 pub const BLANK: Block = [0; BLOCK_LEN];
 
-/// The blank block, as bytes.
-pub fn blank_bytes() -> &'static [u8]
+// The bytes of the blank block.
+fn blank_bytes() -> &'static [u8]
     ensures value { λ r. ⌜ now r ≡ blank ⌝ }
     ensures size { λ r. ⌜ length (now r) ≡ 128 ⌝ }
 {
@@ -26,6 +26,7 @@ pub fn blank_bytes() -> &'static [u8]
 pub fn kept_block(version: u16, block: &[u8]) -> &[u8]
     ensures value { λ r. ⌜ now r ≡ kept version (now (block .entry)) .bytes ⌝ }
     ensures size { λ r. ⌜ (length (now (block .entry)) ≡ 128 → length (now r) ≡ 128) ⌝ }
+    ensures none { λ r. ⌜ (version ≡ 0 → length (now r) ≡ 128) ⌝ }
 {
     if version == 0 { blank_bytes() } else { block }
 }

@@ -14,7 +14,11 @@ fn byte_at(bytes: &[u8], at: usize) -> u8
 fn byte_after(bytes: &[u8], at: usize) -> u8
     ensures { λ r. ⌜ r ≡ getD (now (bytes .entry)) (at + 1) 0 ⌝ }
 {
-    if at < bytes.len() { byte_at(bytes, at + 1) } else { 0 }
+    if at < bytes.len() {
+        byte_at(bytes, at + 1)
+    } else {
+        0
+    }
 }
 
 /// The two-byte number at a place, high byte first. A byte past the end counts as 0.

@@ -4,11 +4,11 @@ mod bytes;
 mod checks;
 mod history;
 mod store;
+
 pub use block::BLANK;
 pub use block::BLOCK_LEN;
 pub use block::Block;
 pub use block::MAX_BLOCKS;
-pub use block::blank_bytes;
 pub use block::kept_block;
 pub use bytes::number_at;
 pub use checks::check_block;

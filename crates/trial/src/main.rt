@@ -1,6 +1,7 @@
 // Joins three block stores over lent memory in a row, and tells what it asks of them and what it sees.
 mod show;
 mod steps;
+
 use log_store::Half;
 use log_store::LogBlocks;
 use log_store::LogStore;
@@ -23,25 +24,42 @@ use steps::write_block;
 
 // How many blocks each store has, and how many records each half of the log has room for.
 const BLOCKS: usize = 4;
+
 const RECORDS: usize = 6;
 
 // The bytes that this takes: 130 for each slot, and 132 for each record of both halves.
 const SLOTS_LEN: usize = 520;
+
 const LOG_LEN: usize = 1584;
 
 type Row<'a> = Joined<Single<SlotStore<'a>>, Joined<Single<LogStore<'a>>, Single<SlotStore<'a>>>>;
 
 // A slot store, a log store and a slot store, one behind the other.
 fn join<'a>(a: &'a mut [u8], b: &'a mut [u8], c: &'a mut [u8]) -> Result<Row<'a>, Refusal> {
-    let first = Single { store: SlotStore::new(BLOCKS, a)? };
-    let second = Single { store: LogStore::new(BLOCKS, RECORDS, b)? };
-    let third = Single { store: SlotStore::new(BLOCKS, c)? };
-    let rest = Joined { first: second, second: third };
-    Ok(Joined { first, second: rest })
+    let first = Single {
+        store: SlotStore::new(BLOCKS, a)?,
+    };
+    let second = Single {
+        store: LogStore::new(BLOCKS, RECORDS, b)?,
+    };
+    let third = Single {
+        store: SlotStore::new(BLOCKS, c)?,
+    };
+    let rest = Joined {
+        first: second,
+        second: third,
+    };
+    Ok(Joined {
+        first,
+        second: rest,
+    })
 }
 
 fn tell_sizes(rt: &LibcRuntime) -> io::Result<()> {
-    print!(rt, "a log of 4 blocks needs room for 5 records in each half; with 4: ")?;
+    print!(
+        rt,
+        "a log of 4 blocks needs room for 5 records in each half; with 4: "
+    )?;
     show::outcome(rt, LogStore::check(BLOCKS, BLOCKS, LOG_LEN))?;
     print!(rt, "slots for 4 blocks take 520 bytes; in 519: ")?;
     show::outcome(rt, SlotStore::check(BLOCKS, SLOTS_LEN - 1))
@@ -50,8 +68,14 @@ fn tell_sizes(rt: &LibcRuntime) -> io::Result<()> {
 fn tell_log(rt: &LibcRuntime, log: &LogStore) -> io::Result<()> {
     let count = log.record_count();
     match log.half_in_use() {
-        Half::First => println!(rt, "  the log has its first half in use, with {count} records"),
-        Half::Second => println!(rt, "  the log has its second half in use, with {count} records"),
+        Half::First => println!(
+            rt,
+            "  the log has its first half in use, with {count} records"
+        ),
+        Half::Second => println!(
+            rt,
+            "  the log has its second half in use, with {count} records"
+        ),
     }
 }
 
@@ -86,7 +110,10 @@ fn tell_refusals(rt: &LibcRuntime, row: &mut Row) -> io::Result<()> {
 
 fn tell(rt: &LibcRuntime, row: &mut Row) -> io::Result<()> {
     let sites = row.site_count();
-    println!(rt, "{sites} sites with {BLOCKS} blocks each: slots, a log of {RECORDS} records in each half, slots")?;
+    println!(
+        rt,
+        "{sites} sites with {BLOCKS} blocks each: slots, a log of {RECORDS} records in each half, slots"
+    )?;
     tell_slots(rt, row)?;
     println!(rt, "a log that fills up is compacted into its other half:")?;
     write_all(rt, row, 1, BLOCKS)?;

@@ -28,7 +28,10 @@ pub(crate) fn refused(rt: &LibcRuntime, refusal: Refusal) -> io::Result<()> {
     let number = refusal.reason.number();
     let layer = refusal.layer.number();
     let place = refusal.place;
-    println!(rt, "refused, {text} (number {number}, layer {layer}, place {place})")
+    println!(
+        rt,
+        "refused, {text} (number {number}, layer {layer}, place {place})"
+    )
 }
 
 pub(crate) fn outcome(rt: &LibcRuntime, outcome: Result<(), Refusal>) -> io::Result<()> {

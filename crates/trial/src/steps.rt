@@ -5,13 +5,28 @@ use std::io;
 use store::BLOCK_LEN;
 
 // Writes a block that repeats one byte.
-pub(crate) fn write_block<R: Replicas>(rt: &LibcRuntime, row: &mut R, site: usize, index: usize, version: u16, fill: u8) -> io::Result<()> {
-    print!(rt, "write block {index} at site {site}, version {version}, 128 bytes of {fill}: ")?;
+pub(crate) fn write_block<R: Replicas>(
+    rt: &LibcRuntime,
+    row: &mut R,
+    site: usize,
+    index: usize,
+    version: u16,
+    fill: u8,
+) -> io::Result<()> {
+    print!(
+        rt,
+        "write block {index} at site {site}, version {version}, 128 bytes of {fill}: "
+    )?;
     outcome(rt, row.write(site, index, version, &[fill; BLOCK_LEN]))
 }
 
 // Writes every block of a site.
-pub(crate) fn write_all<R: Replicas>(rt: &LibcRuntime, row: &mut R, site: usize, blocks: usize) -> io::Result<()> {
+pub(crate) fn write_all<R: Replicas>(
+    rt: &LibcRuntime,
+    row: &mut R,
+    site: usize,
+    blocks: usize,
+) -> io::Result<()> {
     let mut fill = 20;
     for index in 0..blocks {
         write_block(rt, row, site, index, 1, fill)?;
@@ -21,7 +36,12 @@ pub(crate) fn write_all<R: Replicas>(rt: &LibcRuntime, row: &mut R, site: usize,
 }
 
 // Reads a block, and tells its version and its bytes at both ends.
-pub(crate) fn read_block<R: Replicas>(rt: &LibcRuntime, row: &R, site: usize, index: usize) -> io::Result<()> {
+pub(crate) fn read_block<R: Replicas>(
+    rt: &LibcRuntime,
+    row: &R,
+    site: usize,
+    index: usize,
+) -> io::Result<()> {
     print!(rt, "read block {index} at site {site}: ")?;
     let version = match row.version(site, index) {
         Ok(version) => version,
@@ -39,14 +59,28 @@ pub(crate) fn read_block<R: Replicas>(rt: &LibcRuntime, row: &R, site: usize, in
 }
 
 // Reads a block into a buffer of any length.
-pub(crate) fn read_into<R: Replicas>(rt: &LibcRuntime, row: &R, site: usize, index: usize, buffer: &mut [u8]) -> io::Result<()> {
+pub(crate) fn read_into<R: Replicas>(
+    rt: &LibcRuntime,
+    row: &R,
+    site: usize,
+    index: usize,
+    buffer: &mut [u8],
+) -> io::Result<()> {
     let length = buffer.len();
-    print!(rt, "read block {index} at site {site} into {length} bytes: ")?;
+    print!(
+        rt,
+        "read block {index} at site {site} into {length} bytes: "
+    )?;
     outcome(rt, row.read(site, index, buffer))
 }
 
 // Reads every block of a site.
-pub(crate) fn read_all<R: Replicas>(rt: &LibcRuntime, row: &R, site: usize, blocks: usize) -> io::Result<()> {
+pub(crate) fn read_all<R: Replicas>(
+    rt: &LibcRuntime,
+    row: &R,
+    site: usize,
+    blocks: usize,
+) -> io::Result<()> {
     for index in 0..blocks {
         read_block(rt, row, site, index)?;
     }
@@ -54,7 +88,11 @@ pub(crate) fn read_all<R: Replicas>(rt: &LibcRuntime, row: &R, site: usize, bloc
 }
 
 // Makes every block of a site blank.
-pub(crate) fn clear_site<R: Replicas>(rt: &LibcRuntime, row: &mut R, site: usize) -> io::Result<()> {
+pub(crate) fn clear_site<R: Replicas>(
+    rt: &LibcRuntime,
+    row: &mut R,
+    site: usize,
+) -> io::Result<()> {
     print!(rt, "clear site {site}: ")?;
     outcome(rt, row.clear(site))
 }

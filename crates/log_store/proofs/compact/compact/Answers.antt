@@ -14,5 +14,5 @@ loop-index-again c =
     let u = c .args .used in
     let i = c .loop-index .index in
     let e : carryIn h u (record { memory = c .loop-index .memory; count = c .loop-index .count }) i ≡ carriedIn m h u (i + 1) =
-        ap (λ t. carryIn h u t i) (same-carried (carriedIn m h u i) (c .loop-index .memory) (c .loop-index .count) (c .loop-index .inv .1) (c .loop-index .inv .2)) ∙ carried-more m h u i in
+    ap (λ t. carryIn h u t i) (same-carried (carriedIn m h u i) (c .loop-index .memory) (c .loop-index .count) (c .loop-index .inv .1) (c .loop-index .inv .2)) ∙ carried-more m h u i in
     (omega arith, c .carry-block-count .ensures .memory ∙ ap (λ t. t .memory) e, c .carry-block-count .ensures .count ∙ ap (λ t. t .count) e)

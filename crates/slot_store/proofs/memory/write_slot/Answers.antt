@@ -18,5 +18,5 @@ returns c =
     let s = kept-sound v b (omega arith) (c .pre .block) in
     record {
       memory = e;
-      copies = ap slotCopies e ∙ (slots-set m i v (kept v b .bytes) (c .pre .index) (omega arith) (s .size) ∙ ap (set (slotCopies m) i) (kept-again v b))
+      copies = ap slotCopies e ∙ (slots-set m i v (kept v b .bytes) (c .pre .index) (omega arith) (s .size) ∙ ap (set (slotCopies m) i) (kept-again v b));
     }

@@ -13,7 +13,7 @@ add-record-requires c κs =
     record {
       index = omega arith;
       block = c .pre .block;
-      room = subst (λ (l : Log). recordCount l < room l) (sym (c .make-room .ensures .log)) (s .free)
+      room = subst (λ (l : Log). recordCount l < room l) (sym (c .make-room .ensures .log)) (s .free);
     }
 
 pub returns : need.returns
@@ -23,9 +23,9 @@ returns c =
     let v = c .args .version in
     let b = c .args .block .now in
     let e : logOf (c .add-record .last .self) ≡ appended (roomy l) i v (kept v b .bytes) =
-        c .add-record .ensures .log ∙ ap (λ t. appended t i v (kept v b .bytes)) (c .make-room .ensures .log) in
+    c .add-record .ensures .log ∙ ap (λ t. appended t i v (kept v b .bytes)) (c .make-room .ensures .log) in
     record {
       log = e;
       copies = ap logCopies e ∙ block-written l i v b (c .pre .index) (omega arith) (c .pre .block);
-      lender = c .add-record .ensures .lender ∙ c .make-room .ensures .lender
+      lender = c .add-record .ensures .lender ∙ c .make-room .ensures .lender;
     }

@@ -10,8 +10,8 @@ returns c =
     let i = c .args .index in
     record {
       value =
-        c .newest-block .ensures .value ∙
-        (ap (λ n. copyFound (s .memory .now) (newestIn (s .memory .now) (s .half) n i) .bytes) (c .record-count .ensures) ∙
-        sym (ap (λ t. t .bytes) (getD-log (logOf s) i (c .pre))));
-      size = c .newest-block .ensures .size
+          c .newest-block .ensures .value ∙
+          (ap (λ n. copyFound (s .memory .now) (newestIn (s .memory .now) (s .half) n i) .bytes) (c .record-count .ensures) ∙
+          sym (ap (λ t. t .bytes) (getD-log (logOf s) i (c .pre))));
+      size = c .newest-block .ensures .size;
     }

@@ -1,7 +1,7 @@
 use mathlib.Core.Path.{_≡_, _∙_}
 use lib.ListN.{length}
 use Rattle.log_store.proofs.Writing.{sizes-fit, log-started}
-use Rattle.log_store.proofs.log.check_memory.Needs as need
+use Rattle.log_store.proofs.log.open.check_memory.Needs as need
 
 pub returns : need.returns
 returns c =
