@@ -1,3 +1,6 @@
+ghost use mathlib.Core.Path.{_≡_};
+ghost use Rattle.std.specs.declared.result.Result.the-variants.{Ok, Err};
+ghost use Rattle.refusal.specs.Reasons.{fixed};
 use log_store::LogStore;
 use refusal::Refusal;
 use slot_store::SlotStore;
@@ -35,7 +38,9 @@ const LOGS: [(usize, usize, usize); 14] = [
 ];
 
 // The number of a refusal, or 0, and its place.
-pub(crate) fn told(outcome: Result<(), Refusal>) -> (u8, usize) {
+pub(crate) fn told(outcome: Result<(), Refusal>) -> (u8, usize)
+    ensures { λ r. ⌜ elim outcome [ Ok x ↦ (r .0 ≡ 0) × (r .1 ≡ 0) | Err e ↦ (r .0 ≡ fixed (e .reason) .number) × (r .1 ≡ e .place) ] ⌝ }
+{
     match outcome {
         Ok(()) => (0, 0),
         Err(refusal) => (refusal.reason.number(), refusal.place),

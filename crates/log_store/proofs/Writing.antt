@@ -12,8 +12,8 @@ use Rattle.std.proofs.shelf.Lists.{ext-getD, length-set, getD-set-same, getD-se
 use Rattle.std.proofs.shelf.Tests.{cond-true, cond-false, cond-both, cases-eq, eq-eqb, ne-eqb, ltb-true, lt-ltb}
 use Rattle.std.proofs.shelf.Ways.{tells}
 use Rattle.std.specs.declared.option.Option.the-variants.{Some, None}
-use Rattle.store.specs.Stores.{Copy, unwritten, kept, kept-sound}
-use Rattle.store.proofs.Copies.{kept-again}
+use Rattle.store.specs.Stores.{Copy, unwritten, kept}
+use Rattle.store.proofs.Copies.{kept-sound, kept-again}
 use Rattle.log_store.specs.declared.half.Half.{Half}
 use Rattle.log_store.specs.Records.{indexAt, copyAt, withRecord, Carried}
 use Rattle.log_store.specs.Logs.{Log, logRefusal, roomIn, firstIn, other, started, room, blockCount, recordCount, copyOf, logCopies, carriedIn, compacted, roomy, appended, logCleared}

@@ -12,7 +12,8 @@ use Rattle.std.proofs.shelf.Tests.{cond-both}
 use Rattle.std.specs.Holes.{between}
 use Rattle.std.specs.declared.option.Option.the-variants.{Some}
 use Rattle.store.specs.Bytes.{numberAt}
-use Rattle.store.specs.Stores.{Store, Laws, Sound, unwritten, unwritten-sound, kept-sound}
+use Rattle.store.specs.Stores.{Store, Laws, Sound, unwritten}
+use Rattle.store.proofs.Copies.{unwritten-sound, kept-sound}
 use Rattle.log_store.specs.declared.half.Half.{Half}
 use Rattle.log_store.specs.declared.half.Half.the-variants.{First, Second}
 use Rattle.log_store.specs.Records.{indexAt, copyAt, copyFound, newest}

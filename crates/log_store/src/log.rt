@@ -18,7 +18,9 @@ use store::MAX_BLOCKS;
 /// Blocks in a log of records over lent memory.
 #[derive(Drop)]
 pub struct LogStore<'a> {
+    // The blocks that it was made for.
     blocks: usize,
+    // The half in use, and its records.
     half: Half,
     used: usize,
     memory: &'a mut [u8],
@@ -41,8 +43,8 @@ impl<'a> LogStore<'a> {
             .min(MAX_BLOCKS)
     }
 
-    // As many copies as blocks.
-    fn copies(&self) -> usize
+    // How many copies there are: one for each block.
+    fn copy_count(&self) -> usize
         ensures blocks { λ r. ⌜ r ≡ blockCount (logOf (now (self .entry))) ⌝ }
         ensures copies { λ r. ⌜ r ≡ length (logCopies (logOf (now (self .entry)))) ⌝ }
     {
@@ -63,6 +65,7 @@ impl<'a> LogStore<'a> {
         self.used.min(self.room())
     }
 
+    // The version of a block that is there.
     fn found_version(&self, index: usize) -> u16
         requires { ⌜ index < blockCount (logOf (now self)) ⌝ }
         ensures { λ r. ⌜ r ≡ getD (logCopies (logOf (now (self .entry)))) index unwritten .version ⌝ }
@@ -70,6 +73,7 @@ impl<'a> LogStore<'a> {
         newest_version(self.memory, self.half, self.record_count(), index)
     }
 
+    // The content of a block that is there.
     fn found_block(&self, index: usize) -> &[u8]
         requires { ⌜ index < blockCount (logOf (now self)) ⌝ }
         ensures value { λ r. ⌜ now r ≡ getD (logCopies (logOf (now (self .entry)))) index unwritten .bytes ⌝ }

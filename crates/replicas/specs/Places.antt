@@ -8,21 +8,21 @@ use Rattle.replicas.specs.declared.joined.Place.{Place}
 use Rattle.replicas.specs.declared.joined.Place.the-variants.{First, Second, Nowhere}
 use Rattle.replicas.specs.Rows.{Sites, at}
 
--- site s is site t of the first row
+-- site s is one of the first row
 pub record InFirst (p q : Sites) (s : ℕ) : Type 0 where
   pub here : s < length p
   pub there : s < length (p ++ q)
   pub same : at (p ++ q) s ≡ at p s
   pub put : (c : List Copy) → set p s c ++ q ≡ set (p ++ q) s c
 
--- it is site t of the second row
+-- site s is site t of the second row
 pub record InSecond (p q : Sites) (s t : ℕ) : Type 0 where
   pub here : t < length q
   pub there : s < length (p ++ q)
   pub same : at (p ++ q) s ≡ at q t
   pub put : (c : List Copy) → p ++ set q t c ≡ set (p ++ q) s c
 
--- it is no site
+-- there is no site s
 pub record InNone (p q : Sites) (s : ℕ) : Type 0 where
   pub past : length (p ++ q) ≤ s
   pub put : (c : List Copy) → p ++ q ≡ set (p ++ q) s c

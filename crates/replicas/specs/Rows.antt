@@ -1,14 +1,9 @@
 -- What a row of stores means, and what each call on it answers and leaves: what the site's store does, and nothing at the others.
-use mathlib.Core.Path.{_≡_, refl}
 use mathlib.Core.Bool.{cond}
-use mathlib.Core.List.{List, [], _∷_, _++_}
-use mathlib.Core.Logic.{⊎-elim}
-use Prim.Native.Nat.{ℕ, _-_, _<_, _≤_}
-use native.Mathlib.Omega.{arith}
+use mathlib.Core.List.{List, []}
+use Prim.Native.Nat.{ℕ, _<_}
 use lib.Dec.{ltb, eqb}
 use lib.ListN.{length, getD, set}
-use Rattle.std.proofs.shelf.Lists.{length-append, getD-append-left, getD-append-right}
-use Rattle.std.proofs.shelf.Tests.{cases-lt}
 use Rattle.std.specs.declared.result.Result.{Result}
 use Rattle.std.specs.declared.result.Result.the-variants.{Ok, Err}
 use Rattle.refusal.specs.declared.layer.Layer.the-variants.{Part}
@@ -16,7 +11,7 @@ use Rattle.refusal.specs.declared.reason.Reason.the-variants.{NoSuchSite}
 use Rattle.refusal.specs.declared.refusal.Refusal.{Refusal}
 use Rattle.refusal.specs.Refusals.{refused}
 use Rattle.store.specs.Stores as store
-use Rattle.store.specs.Stores.{Copy, Laws, Store}
+use Rattle.store.specs.Stores.{Copy, Laws}
 
 -- the copies of each site's store
 abbrev pub Sites : Type 0
@@ -70,27 +65,3 @@ module _ (sites : Sites) (s : ℕ) where
 -- the only site of a row of one
 abbrev pub onlySite : ℕ → Result (Unit {0}) Refusal
 onlySite s = cond (eqb s 0) (Ok tt) (Err (noSite s))
-
-pub only-laws : (o : Store) (s : ℕ) → s < 1 → Laws (at (o .copies ∷ []) s)
-only-laws o s h = let e : s ≡ 0 = omega arith in rw e (o .laws)
-
-pub both-laws : (p q : Row) (s : ℕ) → s < length (p .sites ++ q .sites) → Laws (at (p .sites ++ q .sites) s)
-both-laws p q s h =
-    ⊎-elim
-    (λ l. rw (getD-append-left (p .sites) (q .sites) [] s l) (p .laws s l))
-    (λ l.
-    let k : s - length (p .sites) < length (q .sites) = omega (arith, length-append (p .sites) (q .sites)) in
-    rw (getD-append-right (p .sites) (q .sites) (length (p .sites)) s [] refl l) (q .laws (s - length (p .sites)) k))
-    (cases-lt s (length (p .sites)))
-
--- one store is a row of one
-abbrev pub single : Store → Row
-single o = record { sites = o .copies ∷ []; some = omega arith; laws = only-laws o }
-
--- two rows, the second behind the first
-abbrev pub joined : Row → Row → Row
-joined p q = record {
-  sites = p .sites ++ q .sites;
-  some = omega (arith, p .some, length-append (p .sites) (q .sites));
-  laws = both-laws p q;
-}

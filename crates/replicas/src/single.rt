@@ -1,5 +1,6 @@
 ghost use mathlib.Core.Path.{_≡_};
-ghost use Rattle.replicas.specs.Rows.{single, onlySite};
+ghost use Rattle.replicas.specs.Meaning.{single};
+ghost use Rattle.replicas.specs.Rows.{onlySite};
 use crate::row::Replicas;
 use refusal::Layer;
 use refusal::Reason;

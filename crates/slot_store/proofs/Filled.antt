@@ -14,7 +14,8 @@ use Rattle.std.proofs.shelf.Ways.{tells}
 use Rattle.std.specs.declared.option.Option.the-variants.{Some, None}
 use Rattle.std.specs.Holes.{between}
 use Rattle.store.specs.Bytes.{number, numberAt}
-use Rattle.store.specs.Stores.{Copy, blank, unwritten, kept, cleared, unwritten-sound}
+use Rattle.store.specs.Stores.{Copy, blank, unwritten, kept, cleared}
+use Rattle.store.proofs.Copies.{unwritten-sound}
 use Rattle.store.proofs.Writes.{Alike, Apart, alike-then, alike-between, alike-first, sets-apart, between-sets, number-sets}
 use Rattle.slot_store.specs.Slots.{slotRefusal, slotsIn, slot, slotCopies, withSlot, clearedBelow}
 use Rattle.slot_store.specs.Meaning.{length-slots, getD-slots}

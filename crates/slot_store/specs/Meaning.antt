@@ -8,7 +8,8 @@ use Rattle.std.proofs.shelf.Counted.{length-map-counting, getD-map-counting}
 use Rattle.std.proofs.shelf.Edits.{length-between}
 use Rattle.std.specs.Holes.{between}
 use Rattle.store.specs.Bytes.{numberAt}
-use Rattle.store.specs.Stores.{Store, Laws, Sound, unwritten, kept-sound}
+use Rattle.store.specs.Stores.{Store, Laws, Sound, unwritten}
+use Rattle.store.proofs.Copies.{kept-sound}
 use Rattle.slot_store.specs.Slots.{slotsIn, slot, slotCopies}
 
 pub length-slots : (m : List ℕ) → length (slotCopies m) ≡ slotsIn (length m)

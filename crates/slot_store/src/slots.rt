@@ -33,8 +33,7 @@ fn check_memory(blocks: usize, memory: &[u8]) -> Result<(), Refusal>
     ensures answer { λ r. ⌜ errPart r ≡ slotRefusal blocks (length (now (memory .entry))) ⌝ }
     ensures count { λ r. ⌜ made r (λ _. length (slotCopies (now (memory .entry))) ≡ blocks) ⌝ }
 {
-    SlotStore::check(blocks, memory.len())?;
-    Ok(())
+    SlotStore::check(blocks, memory.len())
 }
 
 impl<'a> SlotStore<'a> {

@@ -1,11 +1,10 @@
 -- What a block store means, and what each call on it answers and leaves.
-use mathlib.Core.Path.{_≡_, refl}
+use mathlib.Core.Path.{_≡_}
 use mathlib.Core.Bool.{cond}
 use mathlib.Core.List.{List}
 use Prim.Native.Nat.{ℕ, _<_, _≤_, _^_}
 use lib.ListN.{length, getD, set, replicate}
-use lib.Dec.{ltb, eqb, lit<}
-use Rattle.std.proofs.shelf.Tests.{cond-both, eqb-false}
+use lib.Dec.{ltb, eqb}
 use Rattle.std.specs.declared.result.Result.{Result}
 use Rattle.std.specs.declared.result.Result.the-variants.{Ok, Err}
 use Rattle.refusal.specs.declared.layer.Layer.the-variants.{Part}
@@ -36,16 +35,6 @@ pub record Sound (c : Copy) : Type 0 where
   pub fits : c .version < 2 ^ 16
   pub size : length (c .bytes) ≡ 128
   pub none : c .version ≡ 0 → c .bytes ≡ blank
-
-pub unwritten-sound : Sound unwritten
-unfolding blank
-unwritten-sound = record { fits = lit< tt; size = refl; none = λ _. refl }
-
-pub kept-sound : (v : ℕ) (bytes : List ℕ) → v < 2 ^ 16 → length bytes ≡ 128 → Sound (kept v bytes)
-kept-sound v bytes h k =
-    cond-both (eqb v 0) unwritten (record { version = v; bytes = bytes }) Sound
-    (λ e. unwritten-sound)
-    (λ e. record { fits = h; size = k; none = λ z. absurd (eqb-false v 0 e z) })
 
 -- the laws of a store's copies: they are at most 256, and each is sound
 pub record Laws (copies : List Copy) : Type 0 where

@@ -17,7 +17,7 @@ pub impl<'a> BlockStore for LogStore<'a> as LogBlocks {
         ensures copies { λ r. ⌜ r ≡ length (logCopies (logOf (now (self .entry)))) ⌝ }
         ensures blocks { λ r. ⌜ r ≡ blockCount (logOf (now (self .entry))) ⌝ }
     {
-        self.copies()
+        self.copy_count()
     }
 
     fn version(&self, index: usize) -> Result<u16, Refusal> {

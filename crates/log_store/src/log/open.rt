@@ -22,8 +22,7 @@ fn check_memory(blocks: usize, records: usize, memory: &[u8]) -> Result<(), Refu
     ensures sizes { λ r. ⌜ made r (λ _. (blockCount (started blocks (now (memory .entry))) ≡ blocks) × (room (started blocks (now (memory .entry))) ≡ records)) ⌝ }
     ensures copies { λ r. ⌜ made r (λ _. logCopies (started blocks (now (memory .entry))) ≡ replicate blocks unwritten) ⌝ }
 {
-    LogStore::check(blocks, records, memory.len())?;
-    Ok(())
+    LogStore::check(blocks, records, memory.len())
 }
 
 impl<'a> LogStore<'a> {

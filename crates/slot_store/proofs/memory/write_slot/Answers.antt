@@ -1,8 +1,8 @@
 use mathlib.Core.Path.{_≡_, _∙_, ap}
 use native.Mathlib.Omega.{arith}
 use lib.ListN.{set}
-use Rattle.store.specs.Stores.{kept, kept-sound}
-use Rattle.store.proofs.Copies.{kept-again}
+use Rattle.store.specs.Stores.{kept}
+use Rattle.store.proofs.Copies.{kept-sound, kept-again}
 use Rattle.slot_store.specs.Slots.{slotCopies, withSlot}
 use Rattle.slot_store.proofs.Filled.{slots-set}
 use Rattle.slot_store.proofs.memory.write_slot.Needs as need
