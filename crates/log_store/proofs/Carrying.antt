@@ -15,7 +15,7 @@ use Rattle.store.specs.Stores.{Copy, unwritten}
 use Rattle.log_store.specs.declared.half.Half.{Half}
 use Rattle.log_store.specs.declared.half.Half.the-variants.{First, Second}
 use Rattle.log_store.specs.Records.{indexAt, copyAt, copyFound, newest, withCopied, Carried, carry}
-use Rattle.log_store.specs.Logs.{roomIn, firstIn, other, newestIn, carryIn, carriedIn}
+use Rattle.log_store.specs.Logs.{roomIn, firstIn, other, carriedIn}
 use Rattle.log_store.specs.Meaning.{half-fits}
 use Rattle.log_store.proofs.Laid.{Same, length-withCopied, copied-same, copied-other}
 

@@ -4,7 +4,7 @@ use mathlib.Core.List.{List, [], _∷_}
 use Prim.Native.Nat.{ℕ, _^_, _<_}
 use lib.ListN.{length, set, replicate}
 use Rattle.store.specs.Histories.{Change, write, clear, AllFit, copiesAfter, lastWritten, Reads}
-use Rattle.store.specs.Stores.{Copy, unwritten, kept, left, written, cleared}
+use Rattle.store.specs.Stores.{unwritten, kept, left, written, cleared}
 use Rattle.store.proofs.Changes.{left-through, reads-last}
 use Rattle.log_store.specs.Histories.{logAfter, LogForgetsNothing}
 use Rattle.log_store.specs.Logs.{Log, started, blockCount, logCopies, roomy, appended, logWritten, logCleared}

@@ -4,20 +4,18 @@ use mathlib.Core.Bool.{cond}
 use mathlib.Core.List.{List}
 use mathlib.Core.Logic.{⊎-elim}
 use Prim.Native.Nat.{ℕ, suc, min, _+_, _-_, _*_, _^_, _<_, _≤_}
-use native.Mathlib.Numerals.{add-one}
 use native.Mathlib.Omega.{arith}
 use lib.Dec.{eqb, ltb}
 use lib.ListN.{length, getD, set, replicate}
 use Rattle.std.proofs.shelf.Lists.{ext-getD, length-set, getD-set-same, getD-set-other, length-replicate, getD-replicate}
 use Rattle.std.proofs.shelf.Tests.{cond-true, cond-false, cond-both, cases-eq, eq-eqb, ne-eqb, ltb-true, lt-ltb}
 use Rattle.std.proofs.shelf.Ways.{tells}
-use Rattle.std.specs.declared.option.Option.the-variants.{Some, None}
-use Rattle.store.specs.Stores.{Copy, unwritten, kept}
+use Rattle.std.specs.declared.option.Option.the-variants.{None}
+use Rattle.store.specs.Stores.{unwritten, kept}
 use Rattle.store.proofs.Copies.{kept-sound, kept-again}
-use Rattle.log_store.specs.declared.half.Half.{Half}
-use Rattle.log_store.specs.Records.{indexAt, copyAt, withRecord, Carried}
-use Rattle.log_store.specs.Logs.{Log, logRefusal, roomIn, firstIn, other, started, room, blockCount, recordCount, copyOf, logCopies, carriedIn, compacted, roomy, appended, logCleared}
-use Rattle.log_store.specs.Meaning.{length-log, getD-log, half-fits}
+use Rattle.log_store.specs.Records.{copyAt, withRecord, Carried}
+use Rattle.log_store.specs.Logs.{Log, logRefusal, roomIn, firstIn, other, started, room, blockCount, recordCount, copyOf, logCopies, carriedIn, compacted, roomy, appended}
+use Rattle.log_store.specs.Meaning.{length-log, getD-log}
 use Rattle.log_store.proofs.Laid.{length-withRecord, laid-index, laid-copy, laid-other}
 use Rattle.log_store.proofs.Carrying.{copyIn, copyIn-suc, copyIn-same, first-like, in-half, carries}
 

@@ -1,5 +1,4 @@
 ghost use mathlib.Core.Path.{_≡_};
-ghost use lib.ListN.{length};
 ghost use Rattle.log_store.specs.Logs.{roomIn, firstIn, other};
 use crate::record::RECORD_LEN;
 

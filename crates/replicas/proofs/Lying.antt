@@ -1,11 +1,10 @@
 -- A site of two joined rows is a site of the first, or of the second, or none.
 use mathlib.Core.Path.{_≡_, _∙_, refl, sym, ap}
-use mathlib.Core.List.{List, [], _++_}
+use mathlib.Core.List.{[], _++_}
 use Prim.Native.Nat.{ℕ, _+_, _-_, _<_, _≤_}
 use native.Mathlib.Omega.{arith}
 use lib.ListN.{length, getD, set}
 use Rattle.std.proofs.shelf.Lists.{length-append, getD-append-left, getD-append-right, set-append-left, set-append-right, set-past}
-use Rattle.store.specs.Stores.{Copy}
 use Rattle.replicas.specs.Places.{InFirst, InSecond, InNone}
 use Rattle.replicas.specs.Rows.{Sites}
 

@@ -11,7 +11,7 @@ use lib.Seq.{sets, length-sets, drop-cons, append-snoc, set-at}
 use Rattle.std.proofs.shelf.Lists.{ext-getD, length-set, getD-set-same, getD-set-other, length-replicate, drop-all, replicate-more}
 use Rattle.std.proofs.shelf.Tests.{cases-eq, cases-order}
 use Rattle.std.proofs.shelf.Ways.{tells}
-use Rattle.std.specs.declared.option.Option.the-variants.{Some, None}
+use Rattle.std.specs.declared.option.Option.the-variants.{None}
 use Rattle.std.specs.Holes.{between}
 use Rattle.store.specs.Bytes.{number, numberAt}
 use Rattle.store.specs.Stores.{Copy, blank, unwritten, kept, cleared}

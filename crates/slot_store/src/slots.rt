@@ -37,15 +37,15 @@ fn check_memory(blocks: usize, memory: &[u8]) -> Result<(), Refusal>
 }
 
 impl<'a> SlotStore<'a> {
-    /// Whether memory of `length` bytes can be a store of `blocks` blocks.
-    pub fn check(blocks: usize, length: usize) -> Result<(), Refusal>
-        ensures { λ r. ⌜ errPart r ≡ slotRefusal blocks length ⌝ }
+    /// Whether memory of so many bytes can be a store of `blocks` blocks.
+    pub fn check(blocks: usize, bytes: usize) -> Result<(), Refusal>
+        ensures { λ r. ⌜ errPart r ≡ slotRefusal blocks bytes ⌝ }
     {
         if blocks == 0 || blocks > MAX_BLOCKS {
             return Err(Refusal::new(Reason::BadSizes, Layer::Part, 0));
         }
-        if length != blocks * SLOT_LEN {
-            return Err(Refusal::new(Reason::WrongLength, Layer::Part, length));
+        if bytes != blocks * SLOT_LEN {
+            return Err(Refusal::new(Reason::WrongLength, Layer::Part, bytes));
         }
         Ok(())
     }

@@ -2,14 +2,14 @@
 use mathlib.Core.Path.{_≡_, _∙_, refl, sym, ap}
 use mathlib.Core.List.{List, [], _∷_, _++_, append-assoc}
 use mathlib.Core.Logic.{_⊎_, inl, inr, ⊎-elim, _≢_}
-use Prim.Native.Nat.{ℕ, zero, suc, _+_, _-_, _*_, _/_, _%_, _^_, _<_, _≤_}
+use Prim.Native.Nat.{ℕ, suc, _+_, _-_, _*_, _/_, _%_, _^_, _<_, _≤_}
 use native.Mathlib.Omega.{arith}
 use lib.ListN.{length, getD, set, take, drop}
 use lib.Seq.{sets, sets-eq, length-sets, drop-drop, getD-set-other, take-at, drop-at}
 use borrow.Rule.Slice.PartMut.{putMid}
 use Rattle.std.specs.Holes.{between}
 use Rattle.std.proofs.shelf.Edits.{length-between, getD-between}
-use Rattle.std.proofs.shelf.Lists.{ext-getD, length-take, length-drop, length-append}
+use Rattle.std.proofs.shelf.Lists.{ext-getD, length-take}
 use Rattle.store.specs.Bytes.{number, numberAt}
 
 -- a write to a part, as the checker has it, is byte after byte

@@ -3,7 +3,7 @@ ghost use lib.ListN.{length};
 ghost use Rattle.store.specs.Stores.{Store, versionAnswer, readAnswer, readBuffer, writeAnswer, written, cleared};
 use refusal::Refusal;
 
-/// Numbered blocks, each with a version.
+/// Numbered blocks, each with a version. There is at least one: whoever makes a store ensures it, and every call leaves their number as it is.
 pub trait BlockStore {
     ghost holds: { Self → Store };
 

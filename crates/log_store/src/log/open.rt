@@ -26,15 +26,15 @@ fn check_memory(blocks: usize, records: usize, memory: &[u8]) -> Result<(), Refu
 }
 
 impl<'a> LogStore<'a> {
-    /// Whether memory of `length` bytes can be a log of `blocks` blocks with `records` records in each half.
-    pub fn check(blocks: usize, records: usize, length: usize) -> Result<(), Refusal>
-        ensures { λ r. ⌜ errPart r ≡ logRefusal blocks records length ⌝ }
+    /// Whether memory of so many bytes can be a log of `blocks` blocks with `records` records in each half.
+    pub fn check(blocks: usize, records: usize, bytes: usize) -> Result<(), Refusal>
+        ensures { λ r. ⌜ errPart r ≡ logRefusal blocks records bytes ⌝ }
     {
         if blocks == 0 || blocks > MAX_BLOCKS || records <= blocks || records > MAX_RECORDS {
             return Err(Refusal::new(Reason::BadSizes, Layer::Part, 0));
         }
-        if length != 2 * records * RECORD_LEN {
-            return Err(Refusal::new(Reason::WrongLength, Layer::Part, length));
+        if bytes != 2 * records * RECORD_LEN {
+            return Err(Refusal::new(Reason::WrongLength, Layer::Part, bytes));
         }
         Ok(())
     }

@@ -1,7 +1,6 @@
-use mathlib.Core.Path.{_≡_, _∙_, sym, ap}
+use mathlib.Core.Path.{_≡_, _∙_, ap}
 use Prim.Native.Nat.{_+_}
 use native.Mathlib.Omega.{arith}
-use Rattle.log_store.specs.Records.{Carried}
 use Rattle.log_store.specs.Logs.{carryIn, carriedIn}
 use Rattle.log_store.proofs.Newest.{same-carried, carried-more}
 use Rattle.log_store.proofs.compact.compact.Needs as need

@@ -5,6 +5,7 @@ use borrow.Rule.Slice.PartMut.{putMid}
 use Rattle.store.proofs.Writes.{put-is-sets}
 use Rattle.log_store.proofs.record.put_bytes.Needs as need
 
+-- what the checker has of a written part is what byte after byte leaves
 pub returns : need.returns
 returns c =
     let m = c .args .memory .now in

@@ -1,4 +1,4 @@
-use mathlib.Core.Path.{_≡_, _∙_, sym, ap}
+use mathlib.Core.Path.{_∙_, sym, ap}
 use mathlib.Core.Bool.{cond}
 use Prim.Native.Nat.{_+_}
 use lib.Dec.{eqb}
@@ -7,6 +7,7 @@ use Rattle.log_store.specs.Records.{newest}
 use Rattle.log_store.proofs.Newest.{newest-more}
 use Rattle.log_store.proofs.search.has_index.Needs as need
 
+-- one step of the search
 pub returns : need.returns
 returns c =
     let m = c .args .memory .now in

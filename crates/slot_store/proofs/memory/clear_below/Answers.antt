@@ -12,6 +12,7 @@ loop-index-again c =
     let i = c .loop-index .index in
     c .put-slot .ensures ∙ (ap (λ t. withSlot t i 0 blank) (c .loop-index .inv) ∙ cleared-more (c .args .memory .now) i)
 
+-- at the end all slots were cleared
 pub returns : need.returns
 returns c =
     let m = c .args .memory .now in

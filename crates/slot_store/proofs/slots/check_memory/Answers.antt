@@ -17,6 +17,7 @@ counted : (m : List ℕ) (blocks : ℕ) (r : Result (Unit {0}) Refusal) → errP
 counted m blocks (Ok x) e = length-slots m ∙ slots-fit blocks (length m) e
 counted m blocks (Err x) e = tt
 
+-- the check answers, and what it lets pass is counted
 pub returns : need.returns
 returns c = record {
   answer = c .check .ensures;

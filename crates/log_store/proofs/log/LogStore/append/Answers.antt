@@ -16,6 +16,7 @@ add-record-requires c κs =
       room = subst (λ (l : Log). recordCount l < room l) (sym (c .make-room .ensures .log)) (s .free);
     }
 
+-- the record that is added to the log with room is the newest of its block
 pub returns : need.returns
 returns c =
     let l = logOf (c .args .self .now) in

@@ -4,6 +4,7 @@ use Rattle.log_store.specs.Logs.{logOf, newestIn}
 use Rattle.log_store.specs.Meaning.{getD-log}
 use Rattle.log_store.proofs.log.LogStore.found_block.Needs as need
 
+-- the copy of a block is the one that its newest record gives
 pub returns : need.returns
 returns c =
     let s = c .args .self .now in

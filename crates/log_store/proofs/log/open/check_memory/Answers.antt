@@ -23,6 +23,7 @@ module _ (m : List ℕ) (blocks records : ℕ) where
   blank (Ok x) e = log-started blocks m blocks (sizes-fit blocks records (length m) e .1)
   blank (Err x) e = tt
 
+-- the check answers, and what it lets pass is sized and blank
 pub returns : need.returns
 returns c =
     let m = c .args .memory .now in

@@ -7,6 +7,7 @@ use Rattle.replicas.specs.Rows.{Sites}
 use Rattle.replicas.proofs.Lying.{in-first, in-second, in-none}
 use Rattle.replicas.proofs.joined.Joined.place.Needs as need
 
+-- the first row has the site
 pub returns-then-has-site : need.returns-then-has-site
 returns-then-has-site g c =
     let p : Sites = g .P·Replicas .row (c .args .self .now .first) .sites in
@@ -14,6 +15,7 @@ returns-then-has-site g c =
     let s = c .args .site in
     in-first p q s (ltb-true s (length p) (sym (c .has-site .ensures) ∙ c .if-has-site .taken))
 
+-- the first row has it not, so its count is the number of its sites, and the second row has the rest
 pub returns-then-has-site-2 : need.returns-then-has-site-2
 returns-then-has-site-2 g c =
     let p : Sites = g .P·Replicas .row (c .args .self .now .first) .sites in
@@ -24,6 +26,7 @@ returns-then-has-site-2 g c =
     let b = ltb-true t (length q) (sym (c .has-site-2 .ensures) ∙ c .if-has-site-2 .taken) in
     in-second p q s t (omega arith) b
 
+-- neither row has it
 pub returns-else-has-site-2 : need.returns-else-has-site-2
 returns-else-has-site-2 g c =
     let p : Sites = g .P·Replicas .row (c .args .self .now .first) .sites in
