@@ -65,14 +65,23 @@ fn put_slot(memory: &mut [u8], index: usize, version: u16, bytes: &[u8])
     put_bytes(memory, at + 2, bytes);
 }
 
-// Lays a block with a version in a slot.
+// Fills a slot with what is kept of a block.
+fn fill_slot(memory: &mut [u8], index: usize, version: u16, block: &[u8])
+    requires index { ⌜ index < slotsIn (length (now memory)) ⌝ }
+    requires block { ⌜ length (now block) ≡ 128 ⌝ }
+    ensures { λ _. ⌜ now (memory .exit) ≡ withSlot (now (memory .entry)) index version (kept version (now (block .entry)) .bytes) ⌝ }
+{
+    put_slot(memory, index, version, kept_block(version, block));
+}
+
+// The same, by what it leaves of the copies too.
 pub(crate) fn write_slot(memory: &mut [u8], index: usize, version: u16, block: &[u8])
     requires index { ⌜ index < slotsIn (length (now memory)) ⌝ }
     requires block { ⌜ length (now block) ≡ 128 ⌝ }
     ensures memory { λ _. ⌜ now (memory .exit) ≡ withSlot (now (memory .entry)) index version (kept version (now (block .entry)) .bytes) ⌝ }
     ensures copies { λ _. ⌜ slotCopies (now (memory .exit)) ≡ set (slotCopies (now (memory .entry))) index (kept version (now (block .entry))) ⌝ }
 {
-    put_slot(memory, index, version, kept_block(version, block));
+    fill_slot(memory, index, version, block);
 }
 
 // Makes the blocks of the first slots blank.

@@ -14,7 +14,7 @@ returns c =
     let i = c .args .index in
     let v = c .args .version in
     let b = c .args .block .now in
-    let e : c .put-slot .last .memory ≡ withSlot m i v (kept v b .bytes) = c .put-slot .ensures ∙ ap (withSlot m i v) (c .kept-block .ensures .value) in
+    let e : c .fill-slot .last .memory ≡ withSlot m i v (kept v b .bytes) = c .fill-slot .ensures in
     let s = kept-sound v b (omega arith) (c .pre .block) in
     record {
       memory = e;
