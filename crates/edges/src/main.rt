@@ -1,4 +1,7 @@
 // Tries the stores at the edges of what they take, and prints a line for each case: the number of the refusal, or 0, and its place.
+
+#![tactic(auto)]
+
 mod cases;
 mod churn;
 mod layout;

@@ -1,4 +1,7 @@
 // A block store over lent memory that keeps its blocks in a log of records.
+
+#![tactic(auto)]
+
 mod compact;
 mod half;
 mod history;

@@ -1,4 +1,7 @@
 // Quorum rules: which sets of sites may read and which may write.
+
+#![tactic(auto)]
+
 mod grid;
 mod laws;
 mod rule;

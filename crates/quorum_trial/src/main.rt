@@ -1,4 +1,7 @@
 // Asks quorum rules, and tries sets of sites and rules at the edges of what they take.
+
+#![tactic(auto)]
+
 mod rules;
 mod sets;
 mod show;

@@ -1,4 +1,7 @@
 // Why a call was refused.
+
+#![tactic(auto)]
+
 mod layer;
 mod reason;
 mod refusal;

@@ -1,4 +1,7 @@
 // Sets of sites.
+
+#![tactic(auto)]
+
 mod site_bits;
 mod site_set;
 

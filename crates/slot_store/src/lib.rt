@@ -1,4 +1,7 @@
 // A block store over lent memory with a slot for each block.
+
+#![tactic(auto)]
+
 mod memory;
 mod slots;
 

@@ -1,4 +1,7 @@
 // A block store: what it means, and what each call on it answers.
+
+#![tactic(auto)]
+
 mod block;
 mod bytes;
 mod checks;

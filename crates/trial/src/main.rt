@@ -1,4 +1,7 @@
 // Joins three block stores over lent memory in a row, and tells what it asks of them and what it sees.
+
+#![tactic(auto)]
+
 mod show;
 mod steps;
 

@@ -12,4 +12,4 @@ loop-index-preserved c =
     let i = c.loop-index.index in
     let e : carry_in h u (record { memory = c.loop-index.memory; count = c.loop-index.count }) i ≡ carried_in m h u (i + 1) =
     ap (λ t. carry_in h u t i) (same_carried (carried_in m h u i) c.loop-index.memory c.loop-index.count c.loop-index.invariant.1 c.loop-index.invariant.2) ∙ carried_more m h u i in
-    (omega arith, c.carry-block-count.ensures.memory ∙ ap (λ t. t.memory) e, c.carry-block-count.ensures.count ∙ ap (λ t. t.count) e)
+    (omega arith, c.carry_block-count.ensures.memory ∙ ap (λ t. t.memory) e, c.carry_block-count.ensures.count ∙ ap (λ t. t.count) e)

@@ -9,4 +9,4 @@ returns c =
     let m = c.args.memory.now in
     let at = c.args.at in
     let bs = c.args.bytes.now in
-    ap (put_mid at (at + length bs - at) m) c.copy-from-slice.ensures.after ∙ put_is_sets m at bs c.requires
+    ap (put_mid at (at + length bs - at) m) c.copy_from_slice.ensures.after ∙ put_is_sets m at bs c.requires

@@ -10,4 +10,4 @@ returns c =
     let f = c.args.first in
     let n = c.args.at in
     let i = c.args.index in
-    newest_more m f n i ∙ ap (λ x. cond (eqb x i) (Some (f + n)) (newest m f n i)) (sym c.record-index.ensures)
+    newest_more m f n i ∙ ap (λ x. cond (eqb x i) (Some (f + n)) (newest m f n i)) (sym c.record_index.ensures)

@@ -19,6 +19,6 @@ passed votes r q (Err x) e = tt
 -- the check answers, and what it lets pass is the plain rule
 pub returns : goal.returns
 returns c = record {
-  answer = c.check-votes.ensures;
-  rule = passed c.args.votes.now c.args.read-above c.args.write-above c.check-votes.result c.check-votes.ensures;
+  answer = c.check_votes.ensures;
+  rule = passed c.args.votes.now c.args.read_above c.args.write_above c.check_votes.result c.check_votes.ensures;
 }

@@ -5,5 +5,5 @@ use Rattle.quorum.proofs.votes.padded.Goals as goal
 -- the votes were laid at the start
 pub returns : goal.returns
 returns c =
-    let e = c.copy-from-slice.ensures.after in
-    take_at c.copy-from-slice.new.self _ (length c.args.votes.now) (ap length e) ∙ e
+    let e = c.copy_from_slice.ensures.after in
+    take_at c.copy_from_slice.new.self _ (length c.args.votes.now) (ap length e) ∙ e

@@ -9,7 +9,7 @@ pub loop-index-preserved : goal.loop-index-preserved
 unfolding blank
 loop-index-preserved c =
     let i = c.loop-index.index in
-    c.put-slot.ensures ∙ (ap (λ t. with_slot t i 0 blank) c.loop-index.invariant ∙ cleared_more c.args.memory.now i)
+    c.put_slot.ensures ∙ (ap (λ t. with_slot t i 0 blank) c.loop-index.invariant ∙ cleared_more c.args.memory.now i)
 
 -- at the end all slots were cleared
 pub returns : goal.returns

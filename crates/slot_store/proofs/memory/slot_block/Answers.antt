@@ -7,4 +7,4 @@ pub returns : goal.returns
 returns c =
     let e = get_or-slots c.args.memory.now c.args.index c.requires in
     let k = length-slot c.args.memory.now c.args.index c.requires in
-    record { value = search rules; size = c.kept-block.ensures.size k }
+    record { value = search rules; size = c.kept_block.ensures.size k }

@@ -4,4 +4,4 @@ use Rattle.slot_store.proofs.memory.slot_count.Goals as goal
 
 -- there is a copy for each slot
 pub returns : goal.returns
-returns c = record { slots = c.slots-in.ensures; copies = c.slots-in.ensures ∙ sym (length-slots c.args.memory.now) }
+returns c = record { slots = c.slots_in.ensures; copies = c.slots_in.ensures ∙ sym (length-slots c.args.memory.now) }

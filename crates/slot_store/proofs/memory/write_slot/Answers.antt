@@ -12,7 +12,7 @@ returns c =
     let i = c.args.index in
     let v = c.args.version in
     let b = c.args.block.now in
-    let e : c.fill-slot.new.memory ≡ with_slot m i v (kept v b).bytes = c.fill-slot.ensures in
+    let e : c.fill_slot.new.memory ≡ with_slot m i v (kept v b).bytes = c.fill_slot.ensures in
     let s = Sound-kept v b (omega arith) c.requires.block in
     record {
       memory = e;

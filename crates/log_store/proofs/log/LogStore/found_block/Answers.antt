@@ -11,8 +11,8 @@ returns c =
     let i = c.args.index in
     record {
       value =
-          c.newest-block.ensures.value ∙
-          (ap (λ n. (copy_found s.memory.now (newest_in s.memory.now s.half n i)).bytes) c.record-count.ensures ∙
+          c.newest_block.ensures.value ∙
+          (ap (λ n. (copy_found s.memory.now (newest_in s.memory.now s.half n i)).bytes) c.record_count.ensures ∙
           sym (ap (λ t. t.bytes) (get_or-log (log_of s) i c.requires)));
-      size = c.newest-block.ensures.size;
+      size = c.newest_block.ensures.size;
     }

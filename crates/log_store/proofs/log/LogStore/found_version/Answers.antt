@@ -9,6 +9,6 @@ pub returns : goal.returns
 returns c =
     let s = c.args.self.now in
     let i = c.args.index in
-    c.newest-version.ensures ∙
-    (ap (λ n. (copy_found s.memory.now (newest_in s.memory.now s.half n i)).version) c.record-count.ensures ∙
+    c.newest_version.ensures ∙
+    (ap (λ n. (copy_found s.memory.now (newest_in s.memory.now s.half n i)).version) c.record_count.ensures ∙
     sym (ap (λ t. t.version) (get_or-log (log_of s) i c.requires)))
