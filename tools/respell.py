@@ -27,6 +27,7 @@ NAMES = {
     "left-through": "left_through",
     "getD-left": "get_or-left",
     "getD-written": "get_or-written",
+    "get_d_after": "get_or-after",
     "reads-last": "reads_last",
     "kept-none": "kept_none",
     "kept-some": "kept_some",

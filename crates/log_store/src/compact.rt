@@ -9,8 +9,8 @@ use crate::search::newest_record;
 fn carry_block(memory: &mut [u8], half: Half, used: usize, count: usize, index: usize) -> usize
     requires used { used ≤ room_in (length memory.old) }
     requires count { count < room_in (length memory.old) }
-    ensures memory { memory.exit.now ≡ (carry_in half used (record { memory = memory.entry.now; count = count }) index).memory }
-    ensures count { result ≡ (carry_in half used (record { memory = memory.entry.now; count = count }) index).count }
+    ensures memory { memory.new ≡ (carry_in half used (record { memory = memory.old; count = count }) index).memory }
+    ensures count { result ≡ (carry_in half used (record { memory = memory.old; count = count }) index).count }
     ensures one { result ≤ count + 1 }
 {
     let to = half.other().first(memory) + count;

@@ -1,5 +1,5 @@
 -- The rule by votes: sets with more votes than lie outside each other share a site.
-use Rattle.std.specs.Prelude.{◌≡◌, ℕ, zero, suc, ◌+◌, ◌<◌, ◌≤◌, min, Bool, true, false, cond, not, ◌&&◌, T, ltb, ◌⊎◌, List, length, take, nat_le, nat_lt, slice_index, refl}
+use Rattle.std.specs.Prelude.{◌≡◌, ℕ, zero, suc, ◌+◌, ◌<◌, ◌≤◌, min, Bool, true, false, cond, not, ◌&&◌, T, ◌⊎◌, List, length, take, nat_le, nat_lt, slice_index, refl}
 use Rattle.std.proofs.Common.{sym, ap, subst, ◌∙◌, inl, inr, arith, ltb→lt, leb→le}
 use Rattle.std.proofs.Math.Path.{fun_ext}
 use Rattle.std.proofs.lemmas.List.{take_all}
@@ -69,7 +69,7 @@ module _ (votes : List ℕ) (r q : ℕ) where
   guarded_lawful = record {
     read_write = λ a b t u. meets r a b t (guards b u).0;
     write_write = λ a b t u. meets q a b (T-left (nat_lt q (votes_of votes a)) _ t) (guards b u).1;
-    reads_same = λ a b h. ap (ltb r) (votes_same votes a b h);
+    reads_same = λ a b h. ap (nat_lt r) (votes_same votes a b h);
     writes_same = λ a b h.
         let e = votes_same votes a b h in
         let o = votes_same votes (others a) (others b) (others_same (length votes) a b h) in

@@ -1,5 +1,5 @@
 -- Weighted votes: a set may read if its votes exceed r, and write if they exceed q.
-use Rattle.std.specs.Prelude.{ℕ, ◌+◌, ◌*◌, Bool, cond, not, ◌&&◌, leb, List, length, take, None, Option, nat_le, nat_lt, slice_index}
+use Rattle.std.specs.Prelude.{ℕ, ◌+◌, ◌*◌, Bool, cond, not, ◌&&◌, List, length, take, None, Option, nat_le, nat_lt, slice_index}
 use Rattle.refusal.specs.declared.reason.Reason.TheVariants.{BadVotes}
 use Rattle.refusal.specs.declared.refusal.Refusal.{Refusal}
 use Rattle.sites.specs.Bounded.{every, total}
@@ -24,7 +24,7 @@ votes_rule votes r q = record {
 
 -- whether no site has more than 15 votes
 abbrev pub small_votes : List ℕ → Bool
-small_votes votes = every (length votes) (λ i. leb (slice_index votes i) 15)
+small_votes votes = every (length votes) (λ i. nat_le (slice_index votes i) 15)
 
 -- whether each threshold can be exceeded, and whatever exceeds q leaves too few votes outside it to exceed r or q
 abbrev pub fair : ℕ → ℕ → ℕ → Bool

@@ -23,7 +23,7 @@ fn check_only(site: usize) -> Result<(), Refusal>
 }
 
 impl<S: BlockStore> Replicas for Single<S> {
-    ghost row = { λ s. single (S.BlockStore.holds s.store) };
+    ghost row = { λ s. single (S.holds s.store) };
 
     fn site_count(&self) -> usize {
         1

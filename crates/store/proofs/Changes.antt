@@ -59,12 +59,12 @@ module _ (blocks : ℕ) where
   length-after (clear ∷ history) = length-replicate (length (after history)) unwritten ∙ length-after history
 
   -- each change is the last write, or leaves it as it was
-  get_d_after : (history : List Change) (i : ℕ) → i < blocks → get_or (after history) i unwritten ≡ last_written history i
-  get_d_after [] i h = get_or-replicate blocks i unwritten unwritten h
-  get_d_after (write j v block ∷ history) i h =
+  get_or-after : (history : List Change) (i : ℕ) → i < blocks → get_or (after history) i unwritten ≡ last_written history i
+  get_or-after [] i h = get_or-replicate blocks i unwritten unwritten h
+  get_or-after (write j v block ∷ history) i h =
       get_or-written (after history) j v block i (omega (arith, length-after history)) ∙
-      ap (cond (eqb j i && eqb (length block) 128) (kept v block)) (get_d_after history i h)
-  get_d_after (clear ∷ history) i h = get_or-replicate (length (after history)) i unwritten unwritten (omega (arith, length-after history))
+      ap (cond (eqb j i && eqb (length block) 128) (kept v block)) (get_or-after history i h)
+  get_or-after (clear ∷ history) i h = get_or-replicate (length (after history)) i unwritten unwritten (omega (arith, length-after history))
 
   pub reads_last : (history : List Change) (i : ℕ) → i < blocks → Reads (after history) i (last_written history i)
-  reads_last history i h = reads_as (after history) i (last_written history i) (omega (arith, length-after history)) (get_d_after history i h)
+  reads_last history i h = reads_as (after history) i (last_written history i) (omega (arith, length-after history)) (get_or-after history i h)

@@ -1,5 +1,5 @@
 -- What a block store means, and what each call on it answers and leaves.
-use Rattle.std.specs.Prelude.{◌≡◌, ℕ, ◌^◌, ◌<◌, ◌≤◌, cond, List, length, get_or, replicate, Ok, Err, Result, ◌==◌, nat_lt, slice_index_or, slice_set}
+use Rattle.std.specs.Prelude.{◌≡◌, ℕ, ◌^◌, ◌<◌, ◌≤◌, cond, List, length, replicate, Ok, Err, Result, ◌==◌, nat_lt, slice_index_or, slice_set}
 use Rattle.refusal.specs.declared.layer.Layer.TheVariants.{Part}
 use Rattle.refusal.specs.declared.reason.Reason.{Reason}
 use Rattle.refusal.specs.declared.reason.Reason.TheVariants.{NoSuchBlock, WrongLength}
@@ -57,13 +57,13 @@ left count index n new old = cond (nat_lt index count) (cond (n == 128) new old)
 
 module _ (copies : List Copy) (index : ℕ) where
   abbrev pub version_answer : Result ℕ Refusal
-  version_answer = indexed (length copies) index (get_or copies index unwritten).version
+  version_answer = indexed (length copies) index (slice_index_or copies index unwritten).version
 
   abbrev pub read_answer : ℕ → Result (Unit {0}) Refusal
   read_answer n = fitting (length copies) index n tt
 
   abbrev pub read_buffer : List ℕ → List ℕ
-  read_buffer buffer = left (length copies) index (length buffer) (get_or copies index unwritten).bytes buffer
+  read_buffer buffer = left (length copies) index (length buffer) (slice_index_or copies index unwritten).bytes buffer
 
   abbrev pub write_answer : ℕ → Result (Unit {0}) Refusal
   write_answer n = fitting (length copies) index n tt
