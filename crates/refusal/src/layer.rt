@@ -2,16 +2,16 @@ ghost use Rattle.std.specs.Prelude.{◌≡◌};
 ghost use Rattle.refusal.specs.Reasons.{layer_number};
 
 /// What was called when a call was refused.
-#[derive(Clone, Copy)]
+#[derive(Clone, Copy, Debug, PartialEq, Eq)]
 pub enum Layer {
     /// A site image.
-    Image,
+    Image = 1,
     /// What a group is made of: a block store, a row of replicas, a quorum rule.
-    Part,
+    Part = 2,
     /// A replica group.
-    Group,
+    Group = 3,
     /// A batch of requests.
-    Batch,
+    Batch = 4,
 }
 
 impl Layer {
@@ -19,11 +19,6 @@ impl Layer {
     pub fn number(self) -> u8
         ensures { result ≡ layer_number self }
     {
-        match self {
-            Layer::Image => 1,
-            Layer::Part => 2,
-            Layer::Group => 3,
-            Layer::Batch => 4,
-        }
+        self as u8
     }
 }

@@ -1,43 +1,46 @@
-ghost use Rattle.std.specs.Prelude.{◌≡◌};
+ghost use Rattle.std.specs.Prelude.{◌≡◌, Some};
 ghost use Rattle.refusal.specs.Reasons.{fixed};
+ghost use Rattle.refusal.specs.Words.{words};
+
+use std::fmt;
 
 /// Why a call was refused: the whole list.
-#[derive(Clone, Copy)]
+#[derive(Clone, Copy, Debug, PartialEq, Eq)]
 pub enum Reason {
     /// There is no such site.
-    NoSuchSite,
+    NoSuchSite = 1,
     /// There is no such block.
-    NoSuchBlock,
+    NoSuchBlock = 2,
     /// Bytes were handed over in another number than is needed.
-    WrongLength,
+    WrongLength = 3,
     /// The sizes are out of their limits, or do not belong together.
-    BadSizes,
+    BadSizes = 4,
     /// Votes or thresholds make no quorum rule.
-    BadVotes,
+    BadVotes = 5,
     /// Rows and columns make no grid of the sites.
-    BadGrid,
+    BadGrid = 6,
     /// A request is of no known kind.
-    UnknownKind,
+    UnknownKind = 7,
     /// An image has no known form.
-    ImageForm,
+    ImageForm = 8,
     /// A field in the head of an image is wrong.
-    ImageHeader,
+    ImageHeader = 9,
     /// An entry in the table of an image is wrong.
-    ImageRecord,
+    ImageRecord = 10,
     /// The site has failed.
-    SiteFailed,
+    SiteFailed = 11,
     /// The site is comatose.
-    SiteComatose,
+    SiteComatose = 12,
     /// The quorum rule forbids the call to the sites that are on.
-    NoQuorum,
+    NoQuorum = 13,
     /// The block has the last version.
-    LastVersion,
+    LastVersion = 14,
     /// The site to be repaired is on.
-    SiteOn,
+    SiteOn = 15,
 }
 
 /// What the place of a refusal tells.
-#[derive(Clone, Copy)]
+#[derive(Clone, Copy, Debug, PartialEq, Eq)]
 pub enum PlaceKind {
     /// Nothing: it is 0.
     Nothing,
@@ -58,23 +61,7 @@ impl Reason {
     pub fn number(self) -> u8
         ensures { result ≡ (fixed self).number }
     {
-        match self {
-            Reason::NoSuchSite => 1,
-            Reason::NoSuchBlock => 2,
-            Reason::WrongLength => 3,
-            Reason::BadSizes => 4,
-            Reason::BadVotes => 5,
-            Reason::BadGrid => 6,
-            Reason::UnknownKind => 7,
-            Reason::ImageForm => 8,
-            Reason::ImageHeader => 9,
-            Reason::ImageRecord => 10,
-            Reason::SiteFailed => 11,
-            Reason::SiteComatose => 12,
-            Reason::NoQuorum => 13,
-            Reason::LastVersion => 14,
-            Reason::SiteOn => 15,
-        }
+        self as u8
     }
 
     /// What the place of a refusal for this reason tells.
@@ -91,5 +78,30 @@ impl Reason {
             Reason::LastVersion | Reason::SiteOn => PlaceKind::Site,
             Reason::BadSizes | Reason::BadVotes | Reason::BadGrid => PlaceKind::Nothing,
         }
+    }
+}
+
+/// The reason in words.
+impl fmt::Display for Reason {
+    ghost output = { λ r. Some (words r) };
+
+    fn fmt<W: fmt::Write>(&self, f: &mut fmt::Formatter<W>) -> fmt::Result {
+        f.write_str(match self {
+            Reason::NoSuchSite => "no such site",
+            Reason::NoSuchBlock => "no such block",
+            Reason::WrongLength => "wrong length",
+            Reason::BadSizes => "sizes out of their limits",
+            Reason::BadVotes => "votes that make no rule",
+            Reason::BadGrid => "rows and columns that make no grid",
+            Reason::UnknownKind => "unknown kind of request",
+            Reason::ImageForm => "unknown form of an image",
+            Reason::ImageHeader => "wrong field in an image",
+            Reason::ImageRecord => "wrong entry in an image",
+            Reason::SiteFailed => "the site has failed",
+            Reason::SiteComatose => "the site is comatose",
+            Reason::NoQuorum => "no quorum",
+            Reason::LastVersion => "the last version is reached",
+            Reason::SiteOn => "the site is on",
+        })
     }
 }

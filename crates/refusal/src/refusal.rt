@@ -1,10 +1,13 @@
-ghost use Rattle.std.specs.Prelude.{◌≡◌};
+ghost use Rattle.std.specs.Prelude.{◌≡◌, Some};
+ghost use Rattle.refusal.specs.Words.{refusal_text};
 
 use crate::layer::Layer;
 use crate::reason::Reason;
+use std::error::Error;
+use std::fmt;
 
 /// A call was refused, and left everything as it was.
-#[derive(Clone, Copy)]
+#[derive(Clone, Copy, Debug, PartialEq, Eq)]
 pub struct Refusal {
     pub reason: Reason,
     pub layer: Layer,
@@ -27,3 +30,21 @@ impl Refusal {
         }
     }
 }
+
+/// The reason in words, and the numbers.
+impl fmt::Display for Refusal {
+    ghost output = { λ e. Some (refusal_text e) };
+
+    fn fmt<W: fmt::Write>(&self, f: &mut fmt::Formatter<W>) -> fmt::Result {
+        let reason = self.reason;
+        let number = reason.number();
+        let layer = self.layer.number();
+        let place = self.place;
+        write!(
+            f,
+            "{reason} (number {number}, layer {layer}, place {place})"
+        )
+    }
+}
+
+impl Error for Refusal {}
