@@ -9,6 +9,14 @@ kept_none v bytes e = cond-true _ _ _ (eq-eqb v 0 e)
 kept_some : (v : ℕ) (bytes : List ℕ) → (v ≡ 0 → ⊥) → kept v bytes ≡ record { version = v; bytes = bytes }
 kept_some v bytes ne = cond-false _ _ _ (ne_eqb v 0 ne)
 
+-- a copy that is blank where its version is 0 is kept as it is
+pub kept_whole : (v : ℕ) (bytes : List ℕ) → (v ≡ 0 → bytes ≡ blank) → kept v bytes ≡ record { version = v; bytes = bytes }
+kept_whole v bytes h =
+    ⊎_elim
+    (λ e. let b = h e in kept_none v bytes e ∙ rw (e, b) refl)
+    (λ ne. kept_some v bytes ne)
+    (cases_eq v 0)
+
 -- what is kept is kept as it is
 pub kept_again : (v : ℕ) (bytes : List ℕ) → kept v (kept v bytes).bytes ≡ kept v bytes
 kept_again v bytes =

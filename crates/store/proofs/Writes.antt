@@ -1,10 +1,11 @@
 -- What bytes hold after others were laid over them.
-use Rattle.std.proofs.Common.{◌≡◌, ℕ, suc, ◌+◌, ◌-◌, ◌*◌, ◌/◌, ◌%◌, ◌^◌, ◌<◌, ◌≤◌, ◌≢◌, ◌⊎◌, List, [], ◌∷◌, ◌++◌, length, get_or, take, drop, set, sym, refl, ap, ◌∙◌, inl, inr, ⊎_elim, append_assoc, arith, get_or-set_other, drop-drop, take_at, drop_at}
+use Rattle.std.proofs.Common.{◌≡◌, ℕ, zero, suc, ◌+◌, ◌-◌, ◌*◌, ◌/◌, ◌%◌, ◌^◌, ◌<◌, ◌≤◌, ◌≢◌, ◌⊎◌, min, List, [], ◌∷◌, ◌++◌, length, get_or, take, drop, set, sym, refl, ap, ◌∙◌, inl, inr, ⊎_elim, append_assoc, arith, get_or-set_other, drop-drop, take_at, drop_at}
 use lib.Seq.{sets, sets-eq, length-sets}
 use borrow.Rule.Slice.PartMut.{put_mid}
 use Rattle.std.specs.List.{between}
 use Rattle.std.proofs.lemmas.List.Edits.{length-between, get_or-between}
-use Rattle.std.proofs.lemmas.List.{ext_get_or, length-take}
+use Rattle.std.proofs.lemmas.Bool.{cases_lt}
+use Rattle.std.proofs.lemmas.List.{ext_get_or, length-set, length-take, set_past, take_all}
 use Rattle.store.specs.Bytes.{number, number_at}
 
 -- a write to a part, as the checker has it, is byte after byte
@@ -14,6 +15,35 @@ put_is_sets m at bs h =
     ap (λ n. take at m ++ (bs ++ drop n (drop at m))) k ∙
     (ap (λ t. take at m ++ (bs ++ t)) (drop-drop (length bs) at m) ∙
     (sym (append_assoc (take at m) bs (drop (at + length bs) m)) ∙ sym (sets-eq bs m at h)))
+
+-- bytes that lie past the end are left out
+pub sets_past : (bs m : List ℕ) (at : ℕ) → length m ≤ at → sets m at bs ≡ m
+sets_past [] m at h = refl
+sets_past (b ∷ bs) m at h = sets_past bs (set m at b) (suc at) (omega (arith, length-set m at b)) ∙ set_past m at b h
+
+-- the first n bytes alone are laid where the others lie past the end or are none
+pub sets_fitting : (n : ℕ) (bs m : List ℕ) (at : ℕ) → (length m ≤ at + n) ⊎ (length bs ≤ n) → sets m at (take n bs) ≡ sets m at bs
+sets_fitting n [] m at o = ap (sets m at) (take_all n [] (omega arith))
+sets_fitting zero (b ∷ bs) m at o = sym (sets_past (b ∷ bs) m at (⊎_elim (λ h. omega arith) (λ h. omega arith) o))
+sets_fitting (suc n) (b ∷ bs) m at o =
+    sets_fitting n bs (set m at b) (suc at) (⊎_elim (λ h. inl (omega (arith, length-set m at b))) (λ h. inr (omega arith)) o)
+
+-- a write of as many bytes as there is room for, as the checker has it, is byte after byte
+pub put_fitting : (m bs part : List ℕ) (at n : ℕ) → at < length m → n ≡ min (length bs) (length m - at) → part ≡ take n bs →
+    put_mid at (at + n - at) m part ≡ sets m at bs
+put_fitting m bs part at n l e p =
+    let k : length (take n bs) ≡ n = simp length-take (omega (arith, e)) in
+    rw p (ap (λ k. put_mid at (at + k - at) m (take n bs)) (sym k) ∙
+    (put_is_sets m at (take n bs) (omega (arith, k, e)) ∙
+    sets_fitting n bs m at (⊎_elim (λ h. inl (omega (arith, e))) (λ h. inr h) (cases_lt n (length bs)))))
+
+-- the largest place stands for any that is larger
+pub sets_saturated : (bs m : List ℕ) (at place : ℕ) → length m < 2 ^ 64 → place ≡ min at (2 ^ 64 - 1) → sets m place bs ≡ sets m at bs
+sets_saturated bs m at place h e =
+    ⊎_elim
+    (λ l. ap (λ k. sets m k bs) (omega arith))
+    (λ l. sets_past bs m place (omega arith) ∙ sym (sets_past bs m at (omega arith)))
+    (cases_lt at (2 ^ 64))
 
 -- the n bytes from a on of one memory are those from b on of another
 pub record Alike (n a b : ℕ) (m m' : List ℕ) : Type 0 where

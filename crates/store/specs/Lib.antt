@@ -1,3 +1,4 @@
 pub mod Bytes
+pub mod Copies
 pub mod Histories
 pub mod Stores

@@ -1,5 +1,5 @@
 ghost use Rattle.std.specs.Prelude.{◌≡◌, length};
-ghost use Rattle.store.specs.Stores.{blank, kept};
+ghost use Rattle.store.specs.Stores.{kept};
 
 /// How many bytes a block has.
 pub const BLOCK_LEN: usize = 128;
@@ -13,19 +13,12 @@ pub const MAX_BLOCKS: usize = 256;
 /// The blank block.
 pub const BLANK: Block = [0; BLOCK_LEN];
 
-// The bytes of the blank block.
-fn blank_bytes() -> &'static [u8]
-    ensures value { result.now ≡ blank }
-    ensures size { length result.now ≡ 128 }
-{
-    &BLANK
-}
-
 /// What is kept of bytes that are written with a version: the blank block for version 0.
+#[tactic(auto, unfolding(crate::specs::Stores::blank))]
 pub fn kept_block(version: u16, block: &[u8]) -> &[u8]
     ensures value { result.now ≡ (kept version block.now).bytes }
     ensures size { length block.now ≡ 128 → length result.now ≡ 128 }
     ensures none { version ≡ 0 → length result.now ≡ 128 }
 {
-    if version == 0 { blank_bytes() } else { block }
+    if version == 0 { &BLANK } else { block }
 }

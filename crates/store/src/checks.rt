@@ -1,7 +1,9 @@
-ghost use Rattle.std.specs.Prelude.{◌≡◌};
-ghost use Rattle.store.specs.Stores.{indexed, fitting};
+ghost use Rattle.std.specs.Prelude.{◌≡◌, length, Ok, Err, MatchResult};
+ghost use Rattle.store.specs.Copies.{copy_of};
+ghost use Rattle.store.specs.Stores.{indexed, fitting, kept};
 
 use crate::block::BLOCK_LEN;
+use crate::copy::BlockCopy;
 use refusal::{Layer, Reason, Refusal};
 
 /// Whether a store of `count` blocks has a block `index`.
@@ -23,4 +25,18 @@ pub fn check_block(count: usize, index: usize, length: usize) -> Result<(), Refu
         return Err(Refusal::new(Reason::WrongLength, Layer::Part, length));
     }
     Ok(())
+}
+
+/// What a store of `count` blocks keeps of bytes that are written to block `index` with a version.
+pub fn check_write(
+    count: usize,
+    index: usize,
+    version: u16,
+    block: &[u8],
+) -> Result<BlockCopy<'_>, Refusal>
+    ensures { MatchResult result (λ c. fitting count index (length block.now) (kept version block.now) ≡ Ok (copy_of c)) (λ e. fitting count index (length block.now) (kept version block.now) ≡ Err e) }
+{
+    check_index(count, index)?;
+    let refusal = Refusal::new(Reason::WrongLength, Layer::Part, block.len());
+    BlockCopy::kept(version, block).ok_or(refusal)
 }
