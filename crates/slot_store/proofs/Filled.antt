@@ -7,7 +7,7 @@ use Rattle.std.proofs.lemmas.Bool.Decides.{nat_tests}
 use Rattle.std.specs.List.{between}
 use Rattle.store.specs.Bytes.{number, number_at}
 use Rattle.store.specs.Stores.{Copy, blank, unwritten, kept, cleared}
-use Rattle.store.proofs.Copies.{Sound-unwritten}
+use Rattle.store.proofs.Copies.{Sound-unwritten, kept_whole}
 use Rattle.store.proofs.Writes.{Alike, Apart, alike_then, alike_between, alike_first, sets_apart, between-sets, number-sets}
 use Rattle.slot_store.specs.Slots.{slot_refusal, slots_in, slot, slot_copies, with_slot, cleared_below}
 use Rattle.slot_store.specs.Meaning.{length-slots, get_or-slots}
@@ -100,3 +100,6 @@ module _ (m : List ℕ) where
       slot_copies-cleared_below n (omega arith) ∙
       (ap (λ t. replicate n unwritten ++ t) (drop_all n (slot_copies m) (omega arith)) ∙
       (append-nil (replicate n unwritten) ∙ ap (λ k. replicate k unwritten) l))
+
+-- what the functions over memory need of the above
+pub ruleset filled = (length-slots, get_or-slots, slots_fit, slots_set, kept_whole, length-cleared, cleared_more, cleared_all)

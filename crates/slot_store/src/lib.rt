@@ -2,7 +2,6 @@
 
 #![tactic(auto)]
 
-mod memory;
 mod slots;
 
 pub use slots::SlotStore;
