@@ -73,6 +73,27 @@ below_next i k ne =
     (λ l. le-ltb i k l ∙ sym (le-ltb i (suc k) (omega arith)))
     (cases_lt i k)
 
+-- carrying keeps the size of the memory, and carries at most one record for each block
+size-carry : (to : ℕ) (c : Carried) (o : Option ℕ) → length (carry to c o).memory ≡ length c.memory
+size-carry to c None = refl
+size-carry to c (Some r) = length-with_copied c.memory r (to + c.count)
+
+few-carry : (to : ℕ) (c : Carried) (o : Option ℕ) → (carry to c o).count ≤ c.count + 1
+few-carry to c None = omega arith
+few-carry to c (Some r) = omega arith
+
+pub carried_size : (m : List ℕ) (h : Half) (n k : ℕ) → length (carried_in m h n k).memory ≡ length m
+carried_size m h n zero = refl
+carried_size m h n (suc k) =
+    let c : Carried = carried_in m h n k in
+    size-carry (first_in c.memory (other h)) c (newest c.memory (first_in c.memory h) n k) ∙ carried_size m h n k
+
+pub carried_few : (m : List ℕ) (h : Half) (n k : ℕ) → (carried_in m h n k).count ≤ k
+carried_few m h n zero = omega arith
+carried_few m h n (suc k) =
+    let c : Carried = carried_in m h n k in
+    omega (arith, few-carry (first_in c.memory (other h)) c (newest c.memory (first_in c.memory h) n k), carried_few m h n k)
+
 module _ (m : List ℕ) (h : Half) (n : ℕ) (u : n ≤ room_in (length m)) where
   abbrev from : ℕ
   from = first_in m h

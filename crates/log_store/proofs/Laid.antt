@@ -1,13 +1,25 @@
 -- What the records hold after one was laid, or copied over another.
-use Rattle.std.proofs.Common.{◌≡◌, ℕ, ◌+◌, ◌*◌, ◌^◌, ◌<◌, ◌≤◌, List, length, sym, ap, ◌∙◌, inl, inr, ⊎_elim, arith}
-use lib.Seq.{sets, length-sets}
+use Rattle.std.proofs.Common.{◌≡◌, ℕ, ◌+◌, ◌-◌, ◌*◌, ◌^◌, ◌<◌, ◌≤◌, List, ◌++◌, length, take, drop, sym, ap, ◌∙◌, inl, inr, ⊎_elim, arith}
+use lib.Seq.{sets, sets-eq, length-sets}
 use Rattle.std.proofs.lemmas.List.Edits.{length-between}
 use Rattle.std.proofs.lemmas.Bool.{cases_order}
-use Rattle.std.specs.List.{between}
+use Rattle.std.specs.List.{between, copy_within}
 use Rattle.store.specs.Bytes.{number, number_at}
 use Rattle.store.specs.Stores.{kept}
 use Rattle.store.proofs.Writes.{Alike, Apart, alike_then, alike_between, alike_number, alike_first, sets_apart, sets_alike, between-sets, number-sets}
 use Rattle.log_store.specs.Records.{index_at, copy_at, with_record, with_copied}
+
+-- a part that is copied within the memory is laid over another
+pub copied_is : (m : List ℕ) (q r i j to : ℕ) → i ≡ q * 132 → j ≡ q * 132 + 132 → to ≡ r * 132 → q * 132 + 132 ≤ length m → r * 132 + 132 ≤ length m →
+    copy_within m i j to ≡ with_copied m q r
+copied_is m q r i j to e f g h l =
+    let k : length (between (q * 132) (q * 132 + 132) m) ≡ 132 = length-between m (q * 132) (q * 132 + 132) h ∙ omega arith in
+    let n : j - i ≡ 132 = omega arith in
+    let n' : q * 132 + 132 - q * 132 ≡ 132 = omega arith in
+    let t : r * 132 + length (between (q * 132) (q * 132 + 132) m) ≤ length m = omega arith in
+    rw (n, e, g) (ap (λ x. take (r * 132) m ++ take x (drop (q * 132) m) ++ drop (r * 132 + 132) m) (sym n') ∙
+    (ap (λ x. take (r * 132) m ++ between (q * 132) (q * 132 + 132) m ++ drop (r * 132 + x) m) (sym k) ∙
+    sym (sets-eq (between (q * 132) (q * 132 + 132) m) m (r * 132) t)))
 
 -- record r of one memory is record q of another
 pub record Same (m m' : List ℕ) (r q : ℕ) : Type 0 where

@@ -3,8 +3,8 @@ use Rattle.std.proofs.Common.{◌≡◌, ℕ, suc, ◌+◌, ◌-◌, ◌*◌, �
 use Rattle.std.proofs.lemmas.List.{ext_get_or, length-set, get_or-set_same, get_or-set_other, length-replicate, get_or-replicate}
 use Rattle.std.proofs.lemmas.Bool.{cond-true, cond-false, cond_both, cases_eq, eq-eqb, ne_eqb, ltb-true, lt-ltb}
 use Rattle.std.proofs.lemmas.Bool.Decides.{nat_tests}
-use Rattle.store.specs.Stores.{unwritten, kept}
-use Rattle.store.proofs.Copies.{Sound-kept, kept_again}
+use Rattle.store.specs.Stores.{blank, unwritten, kept}
+use Rattle.store.proofs.Copies.{Sound-kept, kept_again, kept_whole}
 use Rattle.log_store.specs.Records.{copy_at, with_record, Carried}
 use Rattle.log_store.specs.Logs.{Log, log_refusal, room_in, first_in, other, started, room, block_count, record_count, copy_of, log_copies, carried_in, compacted, roomy, appended}
 use Rattle.log_store.specs.Meaning.{length-log, get_or-log}
@@ -84,6 +84,15 @@ module _ (l : Log) (i v : ℕ) (bytes : List ℕ) (h : i < block_count l) (f : v
       cond-false (eqb i j) (kept v bytes) (copy_of (roomy l) j) (ne_eqb i j (λ e. ne (sym e))) ∙
       (s.copy j j' ∙ (sym (get_or-log l j j') ∙ sym (get_or-set_other (log_copies l) i j (kept v bytes) unwritten ne))))
       (cases_eq j i)))
+
+-- a copy that is blank where its version is 0 is kept as it is
+pub copy_appended : (l : Log) (i v : ℕ) (bytes : List ℕ) → i < block_count l → v < 2 ^ 16 → length bytes ≡ 128 → (v ≡ 0 → bytes ≡ blank) →
+    log_copies (appended (roomy l) i v bytes) ≡ set (log_copies l) i (record { version = v; bytes = bytes })
+copy_appended l i v bytes h f k b = log_copies-appended l i v bytes h f k ∙ ap (set (log_copies l) i) (kept_whole v bytes b)
+
+-- there is room now
+pub roomy_free : (l : Log) → 1 < room l → record_count (roomy l) < room (roomy l)
+roomy_free l one = (Roomy-roomy l one).free
 
 -- what is written of a block is what is kept of it
 pub block_written : (l : Log) (i v : ℕ) (block : List ℕ) → i < block_count l → v < 2 ^ 16 → length block ≡ 128 →

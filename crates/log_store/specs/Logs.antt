@@ -1,5 +1,5 @@
 -- A log over memory in two halves, and what writing and clearing leave of it.
-use Rattle.std.specs.Prelude.{ℕ, zero, suc, ◌+◌, ◌-◌, ◌*◌, ◌/◌, min, cond, ◌||◌, List, map, length, Some, None, Option, ◌==◌, nat_le, nat_lt}
+use Rattle.std.specs.Prelude.{ℕ, zero, suc, ◌+◌, ◌-◌, ◌*◌, ◌/◌, min, cond, ◌||◌, List, map, length, Some, None, Option, ◌==◌, codes, nat_le, nat_lt}
 use Rattle.std.specs.List.{range_with_len}
 use Rattle.refusal.specs.declared.reason.Reason.TheVariants.{BadSizes, WrongLength}
 use Rattle.refusal.specs.declared.refusal.Refusal.{Refusal}
@@ -42,6 +42,11 @@ abbrev pub other : Half → Half
 other First = Second
 other Second = First
 
+-- a half in words
+abbrev pub half_text : Half → List ℕ
+half_text First = codes "first"
+half_text Second = codes "second"
+
 -- the newest record of a block, where a half has n records
 abbrev pub newest_in : List ℕ → Half → ℕ → ℕ → Option ℕ
 newest_in m half n index = newest m (first_in m half) n index
@@ -71,6 +76,14 @@ copy_of l index = copy_found l.memory (newest_in l.memory l.half (record_count l
 
 unfoldable pub log_copies : Log → List Copy
 log_copies l = map (copy_of l) (range_with_len 0 (block_count l))
+
+-- a log while records are carried
+abbrev pub carrying : Log → Carried → Log
+carrying l c = record { memory = c.memory; blocks = l.blocks; half = l.half; used = l.used }
+
+-- one block's newest record of a log carried behind so many
+abbrev pub carry_block : Log → ℕ → ℕ → Carried
+carry_block l count index = carry_in l.half (record_count l) (record { memory = l.memory; count = count }) index
 
 -- the other half in use, with each block's newest record at its start
 abbrev pub compacted : Log → Log

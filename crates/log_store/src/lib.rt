@@ -2,12 +2,9 @@
 
 #![tactic(auto)]
 
-mod compact;
 mod half;
 mod history;
 mod log;
-mod record;
-mod search;
 
 pub use half::Half;
 pub use history::log_forgets_nothing;

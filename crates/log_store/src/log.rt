@@ -1,14 +1,20 @@
-ghost use Rattle.std.specs.Prelude.{◌≡◌, ◌<◌, length, slice_index_or};
+ghost use Rattle.std.specs.Prelude.{◌≡◌, ◌+◌, ◌*◌, ◌<◌, ◌≤◌, length, slice_index_or, IfSome};
+ghost use Rattle.store.specs.Copies.{copy_of};
 ghost use Rattle.store.specs.Stores.{unwritten};
-ghost use Rattle.log_store.specs.Logs.{log_of, room, block_count, record_count, log_copies};
+ghost use Rattle.log_store.specs.Logs.{log_of, first_in, room, block_count, record_count, log_copies, newest_in};
 
 mod blocks;
 mod change;
 mod open;
 
-use crate::half::{Half, room_in};
-use crate::search::{newest_block, newest_version};
-use store::MAX_BLOCKS;
+use crate::half::Half;
+use store::{BlockCopy, COPY_LEN, number_at};
+
+// How many bytes a record has: an index and a copy of the block.
+const RECORD_LEN: usize = 2 + COPY_LEN;
+
+// The most records that a half has room for.
+const MAX_RECORDS: usize = 512;
 
 /// Blocks in a log of records over lent memory.
 #[derive(Drop)]
@@ -26,24 +32,17 @@ impl<'a> LogStore<'a> {
     fn room(&self) -> usize
         ensures { result ≡ room (log_of self.now) }
     {
-        room_in(self.memory.len())
+        (self.memory.len() / (2 * RECORD_LEN)).min(MAX_RECORDS)
     }
 
-    // How many blocks there are: fewer than a half has room for.
-    fn count(&self) -> usize
-        ensures { result ≡ block_count (log_of self.now) }
+    // The number of a half's first record.
+    fn first_in(&self, half: Half) -> usize
+        ensures { result ≡ first_in (log_of self.now).memory half }
     {
-        self.blocks
-            .min(self.room().saturating_sub(1))
-            .min(MAX_BLOCKS)
-    }
-
-    // How many copies there are: one for each block.
-    fn copy_count(&self) -> usize
-        ensures blocks { result ≡ block_count (log_of self.now) }
-        ensures copies { result ≡ length (log_copies (log_of self.now)) }
-    {
-        self.count()
+        match half {
+            Half::First => 0,
+            Half::Second => self.room(),
+        }
     }
 
     /// The half in use.
@@ -60,20 +59,31 @@ impl<'a> LogStore<'a> {
         self.used.min(self.room())
     }
 
-    // The version of a block that is there.
-    fn found_version(&self, index: usize) -> u16
-        requires { index < block_count (log_of self.now) }
-        ensures { result ≡ (slice_index_or (log_copies (log_of self.now)) index unwritten).version }
+    // The newest record of a block.
+    #[tactic(auto, using(crate::proofs::Remembering::logged))]
+    fn newest(&self, index: usize) -> Option<usize>
+        ensures found { result ≡ newest_in (log_of self.now).memory (log_of self.now).half (record_count (log_of self.now)) index }
+        ensures within { IfSome result (λ at. at * 132 + 132 ≤ length (log_of self.now).memory) }
     {
-        newest_version(self.memory, self.half, self.record_count(), index)
+        let first = self.first_in(self.half);
+        for at in (0..self.record_count()).rev() {
+            let record = first + at;
+            if usize::from(number_at(self.memory, record * RECORD_LEN)) == index {
+                return Some(record);
+            }
+        }
+        None
     }
 
-    // The content of a block that is there.
-    fn found_block(&self, index: usize) -> &[u8]
+    // The copy of a block that is there: the one in its newest record, or an unwritten one where it has none.
+    #[tactic(auto, using(crate::proofs::Remembering::logged))]
+    fn found(&self, index: usize) -> BlockCopy<'_>
         requires { index < block_count (log_of self.now) }
-        ensures value { result.now ≡ (slice_index_or (log_copies (log_of self.now)) index unwritten).bytes }
-        ensures size { length result.now ≡ 128 }
+        ensures { copy_of result ≡ slice_index_or (log_copies (log_of self.now)) index unwritten }
     {
-        newest_block(self.memory, self.half, self.record_count(), index)
+        match self.newest(index) {
+            Some(at) => BlockCopy::from_bytes(self.memory, at * RECORD_LEN + 2).unwrap(),
+            None => BlockCopy::unwritten(),
+        }
     }
 }

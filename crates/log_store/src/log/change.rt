@@ -1,19 +1,44 @@
-ghost use Rattle.std.specs.Prelude.{◌≡◌, ◌+◌, ◌<◌, length, slice_set};
-ghost use Rattle.store.specs.Stores.{kept, cleared};
-ghost use Rattle.log_store.specs.Logs.{log_of, first_in, room, block_count, record_count, log_copies, roomy, appended, log_cleared};
+ghost use Rattle.std.specs.Prelude.{◌≡◌, ◌<◌, ◌≤◌, slice_set};
+ghost use Rattle.store.specs.Copies.{copy_of};
+ghost use Rattle.log_store.specs.Logs.{log_of, room, block_count, record_count, log_copies, carrying, carry_block, compacted, roomy, appended};
 
-use crate::compact::compact;
-use crate::half::Half;
-use crate::log::LogStore;
-use crate::record::put_record;
-use store::kept_block;
+use crate::log::{LogStore, RECORD_LEN};
+use store::{BlockCopy, BlockStore, put_bytes};
 
 impl<'a> LogStore<'a> {
-    // The place of the next record.
-    fn next_place(&self) -> usize
-        ensures { result ≡ first_in (log_of self.now).memory (log_of self.now).half + record_count (log_of self.now) }
+    // Copies a block's newest record, if it has one, behind those that were carried into the other half so far, and answers how many they are now.
+    #[tactic(auto, using(crate::proofs::Remembering::logged))]
+    fn carry(&mut self, count: usize, index: usize) -> usize
+        requires { count < room (log_of self.old) }
+        ensures log { log_of self.new ≡ carrying (log_of self.old) (carry_block (log_of self.old) count index) }
+        ensures count { result ≡ (carry_block (log_of self.old) count index).count }
+        ensures lender { self.new.memory.ghost_name ≡ self.old.memory.ghost_name }
     {
-        self.half.first(self.memory) + self.record_count()
+        let to = self.first_in(self.half.other()) + count;
+        match self.newest(index) {
+            Some(record) => {
+                let from = record * RECORD_LEN;
+                self.memory
+                    .copy_within(from..from + RECORD_LEN, to * RECORD_LEN);
+                count + 1
+            }
+            None => count,
+        }
+    }
+
+    // Copies the newest record of each block to the start of the other half, in rising index, and takes that half into use.
+    #[tactic(auto, using(crate::proofs::Remembering::logged))]
+    fn compact(&mut self)
+        requires { 1 < room (log_of self.old) }
+        ensures log { log_of self.new ≡ compacted (log_of self.old) }
+        ensures lender { self.new.memory.ghost_name ≡ self.old.memory.ghost_name }
+    {
+        let mut count = 0;
+        for index in 0..self.block_count() {
+            count = self.carry(count, index);
+        }
+        self.half = self.half.other();
+        self.used = count;
     }
 
     // Makes room for one record more: a full half is compacted into the other first.
@@ -22,62 +47,35 @@ impl<'a> LogStore<'a> {
         ensures log { log_of self.new ≡ roomy (log_of self.old) }
         ensures lender { self.new.memory.ghost_name ≡ self.old.memory.ghost_name }
     {
-        let used = self.record_count();
-        if used >= self.room() {
-            let half = self.half;
-            let blocks = self.count();
-            self.used = compact(self.memory, half, used, blocks);
-            self.half = half.other();
+        if self.record_count() >= self.room() {
+            self.compact();
         }
     }
 
     // Adds a record behind the last.
-    fn add_record(&mut self, index: usize, version: u16, block: &[u8])
+    #[tactic(auto, using(crate::proofs::Remembering::logged))]
+    fn add(&mut self, index: usize, copy: BlockCopy)
         requires index { index < 256 }
-        requires block { length block.now ≡ 128 }
         requires room { record_count (log_of self.old) < room (log_of self.old) }
-        ensures log { log_of self.new ≡ appended (log_of self.old) index version (kept version block.now).bytes }
+        ensures log { log_of self.new ≡ appended (log_of self.old) index copy.entry.version copy.entry.bytes.now }
         ensures lender { self.new.memory.ghost_name ≡ self.old.memory.ghost_name }
     {
-        let at = self.next_place();
         let used = self.record_count();
-        put_record(
-            self.memory,
-            at,
-            index as u16,
-            version,
-            kept_block(version, block),
-        );
+        let at = self.first_in(self.half) + used;
+        put_bytes(self.memory, at * RECORD_LEN, &(index as u16).to_be_bytes());
+        copy.put(self.memory, at * RECORD_LEN + 2);
         self.used = used + 1;
     }
 
     // Adds a record, and room for it first.
-    pub(crate) fn append(&mut self, index: usize, version: u16, block: &[u8])
-        requires index { index < block_count (log_of self.old) }
-        requires block { length block.now ≡ 128 }
-        ensures log { log_of self.new ≡ appended (roomy (log_of self.old)) index version (kept version block.now).bytes }
-        ensures copies { log_copies (log_of self.new) ≡ slice_set (log_copies (log_of self.old)) index (kept version block.now) }
+    #[tactic(auto, using(crate::proofs::Remembering::logged))]
+    pub(crate) fn append(&mut self, index: usize, copy: BlockCopy)
+        requires { index < block_count (log_of self.old) }
+        ensures log { log_of self.new ≡ appended (roomy (log_of self.old)) index copy.entry.version copy.entry.bytes.now }
+        ensures copies { log_copies (log_of self.new) ≡ slice_set (log_copies (log_of self.old)) index (copy_of copy.entry) }
         ensures lender { self.new.memory.ghost_name ≡ self.old.memory.ghost_name }
     {
         self.make_room();
-        self.add_record(index, version, block);
-    }
-
-    // Returns to the start.
-    fn start(&mut self)
-        ensures log { log_of self.new ≡ log_cleared (log_of self.old) }
-        ensures lender { self.new.memory.ghost_name ≡ self.old.memory.ghost_name }
-    {
-        self.half = Half::First;
-        self.used = 0;
-    }
-
-    // The same, by what it leaves of the copies.
-    pub(crate) fn restart(&mut self)
-        ensures log { log_of self.new ≡ log_cleared (log_of self.old) }
-        ensures copies { log_copies (log_of self.new) ≡ cleared (log_copies (log_of self.old)) }
-        ensures lender { self.new.memory.ghost_name ≡ self.old.memory.ghost_name }
-    {
-        self.start();
+        self.add(index, copy);
     }
 }

@@ -1,23 +1,13 @@
-ghost use Rattle.std.specs.Prelude.{◌≡◌, length, replicate, IfOk, MatchResult, OnOk};
+ghost use Rattle.std.specs.Prelude.{◌≡◌, length, replicate, IfOk, MatchResult};
 ghost use Rattle.std.specs.Result.{result_err};
 ghost use Rattle.refusal.specs.Refusals.{rejection};
 ghost use Rattle.store.specs.Stores.{unwritten};
 ghost use Rattle.log_store.specs.Logs.{log_refusal, log_of, started, room, block_count, log_copies};
 
-use crate::half::{Half, MAX_RECORDS};
-use crate::log::LogStore;
-use crate::record::RECORD_LEN;
+use crate::half::Half;
+use crate::log::{LogStore, MAX_RECORDS, RECORD_LEN};
 use refusal::{Layer, Reason, Refusal, Rejected};
 use store::MAX_BLOCKS;
-
-// Whether the memory can be a log of such sizes.
-fn check_memory(blocks: usize, records: usize, memory: &[u8]) -> Result<(), Refusal>
-    ensures answer { result_err result ≡ log_refusal blocks records (length memory.now) }
-    ensures sizes { OnOk result ((block_count (started blocks memory.now) ≡ blocks) × (room (started blocks memory.now) ≡ records)) }
-    ensures copies { OnOk result (log_copies (started blocks memory.now) ≡ replicate blocks unwritten) }
-{
-    LogStore::check(blocks, records, memory.len())
-}
 
 impl<'a> LogStore<'a> {
     /// Whether memory of so many bytes can be a log of `blocks` blocks with `records` records in each half.
@@ -34,6 +24,7 @@ impl<'a> LogStore<'a> {
     }
 
     /// Takes memory for a log of `blocks` blocks with `records` records in each half; where it is refused the memory comes back.
+    #[tactic(auto, using(crate::proofs::Remembering::logged))]
     pub fn new(
         blocks: usize,
         records: usize,
@@ -45,7 +36,7 @@ impl<'a> LogStore<'a> {
         ensures copies { IfOk result (λ s. log_copies (log_of s) ≡ replicate blocks unwritten) }
         ensures lender { MatchResult result (λ s. s.memory.ghost_name ≡ memory.entry.ghost_name) (λ e. e.given.ghost_name ≡ memory.entry.ghost_name) }
     {
-        match check_memory(blocks, records, memory) {
+        match LogStore::check(blocks, records, memory.len()) {
             Ok(()) => Ok(LogStore {
                 blocks,
                 half: Half::First,
