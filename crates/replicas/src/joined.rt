@@ -1,10 +1,9 @@
-ghost use Rattle.std.specs.Prelude.{◌≡◌, ◌-◌, ◌^◌, min, ◌++◌, length, nat_lt};
+ghost use Rattle.std.specs.Prelude.{◌≡◌, length, nat_lt};
 ghost use Rattle.replicas.specs.Meaning.{joined};
-ghost use Rattle.replicas.specs.Rows.{no_site};
 ghost use Rattle.replicas.specs.Places.{Lies};
 
-use crate::row::Replicas;
-use refusal::{Layer, Reason, Refusal};
+use crate::row::{Replicas, no_site};
+use refusal::Refusal;
 
 /// Two rows, the second's sites behind the first's.
 #[derive(Drop)]
@@ -17,7 +16,6 @@ pub struct Joined<P, Q> {
 enum Place {
     First,
     Second(usize),
-    Nowhere,
 }
 
 // Whether the row has the site; its count does not tell where it is the largest `usize`.
@@ -28,65 +26,49 @@ fn has_site<R: Replicas>(row: &R, site: usize) -> bool
 }
 
 impl<P: Replicas, Q: Replicas> Joined<P, Q> {
-    // Where a site lies.
-    fn place(&self, site: usize) -> Place
+    // Where a site lies; a site that neither row has is refused.
+    #[tactic(auto, using(crate::proofs::Lists::joined_lists))]
+    fn place(&self, site: usize) -> Result<Place, Refusal>
         ensures { Lies (P.Replicas.row self.now.first).sites (Q.Replicas.row self.now.second).sites site result }
     {
         if has_site(&self.first, site) {
-            return Place::First;
+            return Ok(Place::First);
         }
         let rest = site - self.first.site_count();
         if has_site(&self.second, rest) {
-            Place::Second(rest)
-        } else {
-            Place::Nowhere
+            return Ok(Place::Second(rest));
         }
+        Err(no_site(site))
     }
-
-    // How many sites both rows have.
-    fn sites(&self) -> usize
-        ensures { result ≡ min (length ((P.Replicas.row self.now.first).sites ++ (Q.Replicas.row self.now.second).sites)) (2 ^ 64 - 1) }
-    {
-        self.first
-            .site_count()
-            .saturating_add(self.second.site_count())
-    }
-}
-
-fn no_site(site: usize) -> Refusal
-    ensures { result ≡ no_site site }
-{
-    Refusal::new(Reason::NoSuchSite, Layer::Part, site)
 }
 
 impl<P: Replicas, Q: Replicas> Replicas for Joined<P, Q> {
     ghost row = { λ s. joined (P.Replicas.row s.first) (Q.Replicas.row s.second) };
 
     fn site_count(&self) -> usize {
-        self.sites()
+        self.first
+            .site_count()
+            .saturating_add(self.second.site_count())
     }
 
     fn block_count(&self, site: usize) -> Result<usize, Refusal> {
-        match self.place(site) {
+        match self.place(site)? {
             Place::First => self.first.block_count(site),
             Place::Second(rest) => self.second.block_count(rest),
-            Place::Nowhere => Err(no_site(site)),
         }
     }
 
     fn version(&self, site: usize, index: usize) -> Result<u16, Refusal> {
-        match self.place(site) {
+        match self.place(site)? {
             Place::First => self.first.version(site, index),
             Place::Second(rest) => self.second.version(rest, index),
-            Place::Nowhere => Err(no_site(site)),
         }
     }
 
     fn read(&self, site: usize, index: usize, buffer: &mut [u8]) -> Result<(), Refusal> {
-        match self.place(site) {
+        match self.place(site)? {
             Place::First => self.first.read(site, index, buffer),
             Place::Second(rest) => self.second.read(rest, index, buffer),
-            Place::Nowhere => Err(no_site(site)),
         }
     }
 
@@ -97,18 +79,16 @@ impl<P: Replicas, Q: Replicas> Replicas for Joined<P, Q> {
         version: u16,
         block: &[u8],
     ) -> Result<(), Refusal> {
-        match self.place(site) {
+        match self.place(site)? {
             Place::First => self.first.write(site, index, version, block),
             Place::Second(rest) => self.second.write(rest, index, version, block),
-            Place::Nowhere => Err(no_site(site)),
         }
     }
 
     fn clear(&mut self, site: usize) -> Result<(), Refusal> {
-        match self.place(site) {
+        match self.place(site)? {
             Place::First => self.first.clear(site),
             Place::Second(rest) => self.second.clear(rest),
-            Place::Nowhere => Err(no_site(site)),
         }
     }
 }

@@ -1,7 +1,7 @@
 ghost use Rattle.std.specs.Prelude.{◌≡◌, ◌-◌, ◌^◌, min, length};
-ghost use Rattle.replicas.specs.Rows.{Row, count_answer, version_answer, read_answer, read_buffer, write_answer, written, clear_answer, cleared};
+ghost use Rattle.replicas.specs.Rows.{Row, count_answer, version_answer, read_answer, read_buffer, write_answer, written, clear_answer, cleared, no_site};
 
-use refusal::Refusal;
+use refusal::{Layer, Reason, Refusal};
 
 /// Block stores of any kinds in a row, one for each site, numbered from 0.
 pub trait Replicas {
@@ -39,4 +39,11 @@ pub trait Replicas {
     fn clear(&mut self, site: usize) -> Result<(), Refusal>
         ensures answer { result ≡ clear_answer (row self.old).sites site }
         ensures after { (row self.new).sites ≡ cleared (row self.old).sites site };
+}
+
+// The refusal of a call at a site that the row has not.
+pub(crate) fn no_site(site: usize) -> Refusal
+    ensures { result ≡ no_site site }
+{
+    Refusal::new(Reason::NoSuchSite, Layer::Part, site)
 }

@@ -2,8 +2,8 @@ ghost use Rattle.std.specs.Prelude.{◌≡◌};
 ghost use Rattle.replicas.specs.Meaning.{single};
 ghost use Rattle.replicas.specs.Rows.{only_site};
 
-use crate::row::Replicas;
-use refusal::{Layer, Reason, Refusal};
+use crate::row::{Replicas, no_site};
+use refusal::Refusal;
 use store::BlockStore;
 
 /// One store is a row of one.
@@ -17,7 +17,7 @@ fn check_only(site: usize) -> Result<(), Refusal>
     ensures { result ≡ only_site site }
 {
     if site != 0 {
-        return Err(Refusal::new(Reason::NoSuchSite, Layer::Part, site));
+        return Err(no_site(site));
     }
     Ok(())
 }
