@@ -1,7 +1,5 @@
-ghost use Rattle.std.specs.Prelude.{◌≡◌, ◌+◌, ◌*◌, ◌<◌, ◌≤◌, length, slice_index_or, IfSome};
-ghost use Rattle.store.specs.Copies.{copy_of};
-ghost use Rattle.store.specs.Stores.{unwritten};
-ghost use Rattle.log_store.specs.Logs.{log_of, first_in, room, block_count, record_count, log_copies, newest_in};
+ghost use Rattle.std.specs.Prelude.{◌<◌, ◌≤◌, length};
+ghost use Rattle.log_store.specs.Records.{room_in};
 
 mod blocks;
 mod change;
@@ -25,9 +23,18 @@ pub struct LogStore<'a> {
     half: Half,
     used: usize,
     memory: &'a mut [u8],
+    ghost some: { 0 < blocks },
+    ghost few: { blocks ≤ 256 },
+    ghost roomy: { blocks < room_in (length memory.now) },
+    ghost within: { used ≤ room_in (length memory.now) },
 }
 
 impl<'a> LogStore<'a> {
+    ghost use Rattle.std.specs.Prelude.{◌≡◌, ◌+◌, ◌*◌, slice_index_or, IfSome};
+    ghost use Rattle.store.specs.Copies.{copy_of};
+    ghost use Rattle.store.specs.Stores.{unwritten};
+    ghost use Rattle.log_store.specs.Logs.{log_of, first_in, room, block_count, record_count, log_copies, newest_in};
+
     // How many records each half has room for.
     fn room(&self) -> usize
         ensures { result ≡ room (log_of self.now) }
@@ -56,7 +63,7 @@ impl<'a> LogStore<'a> {
     pub fn record_count(&self) -> usize
         ensures { result ≡ record_count (log_of self.now) }
     {
-        self.used.min(self.room())
+        self.used
     }
 
     // The newest record of a block.

@@ -29,7 +29,6 @@ impl<'a> LogStore<'a> {
     // Copies the newest record of each block to the start of the other half, in rising index, and takes that half into use.
     #[tactic(auto, using(crate::proofs::Remembering::logged))]
     fn compact(&mut self)
-        requires { 1 < room (log_of self.old) }
         ensures log { log_of self.new ≡ compacted (log_of self.old) }
         ensures lender { self.new.memory.ghost_name ≡ self.old.memory.ghost_name }
     {
@@ -43,7 +42,6 @@ impl<'a> LogStore<'a> {
 
     // Makes room for one record more: a full half is compacted into the other first.
     fn make_room(&mut self)
-        requires { 1 < room (log_of self.old) }
         ensures log { log_of self.new ≡ roomy (log_of self.old) }
         ensures lender { self.new.memory.ghost_name ≡ self.old.memory.ghost_name }
     {
