@@ -1,0 +1,66 @@
+-- What `any` and `all` answer over the numbers below a bound, for `grind`: each test is told by the items of a range's runs.
+use Rattle.std.proofs.Common.{◌≡◌, ℕ, zero, suc, ◌+◌, ◌<◌, Bool, true, false, ◌&&◌, ◌⊎◌, Option, Some, None, IfSome, refl, ap, ◌∙◌, inl, inr, arith}
+use Rattle.std.specs.Iterator.Runs.{Run, EveryRun}
+use Rattle.std.specs.Option.{option_map}
+use Rattle.std.proofs.iter.Yields.{nat_range_steps}
+use Rattle.std.proofs.iter.runs.Sources.{range_runs}
+use Rattle.sites.specs.Bounded.{every, any}
+use Rattle.sites.proofs.Bounded.{every_at, any_some, some_any}
+use Rattle.sites.proofs.Tests.{T_true, T_false, T-by, T-from}
+
+-- P of every run of a range from 0 to n
+abbrev OfRuns : ℕ → (Run nat_range_steps → Type 0) → Type 0
+OfRuns n P = EveryRun nat_range_steps (λ q. q.from.start ≡ 0 → q.from.end ≡ n → P q)
+
+-- such a run comes by i, if it goes on to the end
+abbrev ComesBy : ℕ → ℕ → Type 0
+ComesBy n i = OfRuns n (λ q. q.whole ≡ true → q.at i ≡ Some i)
+
+-- P of each item of such a run
+abbrev OfItems : ℕ → (ℕ → Type 0) → Type 0
+OfItems n P = OfRuns n (λ q. (k : ℕ) → IfSome (q.at k) P)
+
+read : (o : Option ℕ) (i : ℕ) → option_map (λ y. y) o ≡ Some i → o ≡ Some i
+read None i e = e
+read (Some x) i e = e
+
+comes_by : (n i : ℕ) → i < n → ComesBy n i
+comes_by n i l q _ start end whole =
+    let up = range_runs q q.seen in
+    let long = up.1 whole in
+    let e : q.from.start + i ≡ i = omega arith in
+    read (q.at i) i (up.3 i (omega arith) ∙ ap Some e)
+
+weaker : {P Q : ℕ → Type 0} (o : Option ℕ) → ((x : ℕ) → P x → Q x) → IfSome o P → IfSome o Q
+weaker None h p = tt
+weaker (Some x) h p = h x p
+
+of_items : (n : ℕ) (P : ℕ → Type 0) → ((i : ℕ) → i < n → P i) → OfItems n P
+of_items n P h q _ start end k = weaker (q.at k) (λ x w. h x (omega (arith, w.1))) ((range_runs q q.seen).2 k)
+
+pub any_tells : (n : ℕ) (p : ℕ → Bool)
+    → ((any n p ≡ true) × (i : ℕ) × (p i ≡ true) × ComesBy n i) ⊎ ((any n p ≡ false) × OfItems n (λ i. p i ≡ false))
+any_tells n p = go (any n p) refl
+  where
+    go : (b : Bool) → any n p ≡ b → ((any n p ≡ true) × (i : ℕ) × (p i ≡ true) × ComesBy n i) ⊎ ((any n p ≡ false) × OfItems n (λ i. p i ≡ false))
+    go true e = let w = any_some n p (T-from e tt) in inl (e, w.0, T_true (p w.0) w.2, comes_by n w.0 w.1)
+    go false e = inr (e, of_items n (λ i. p i ≡ false) (λ i l. T_false (p i) (λ t. T-by e (some_any n p i l t))))
+
+every_fails : (n : ℕ) (p : ℕ → Bool) → every n p ≡ false → (i : ℕ) × (i < n) × (p i ≡ false)
+every_fails zero p e = absurd (grind arith)
+every_fails (suc n) p e = go (every n p) (p n) (every_fails n p) refl e
+  where
+    go : (all here : Bool) → (all ≡ false → (i : ℕ) × (i < n) × (p i ≡ false)) → p n ≡ here → (all && here) ≡ false → (i : ℕ) × (i < suc n) × (p i ≡ false)
+    go all false rest h e = (n, omega arith, h)
+    go false true rest h e = let r = rest refl in (r.0, omega (arith, r.1), r.2)
+    go true true rest h e = absurd (grind arith)
+
+pub every_tells : (n : ℕ) (p : ℕ → Bool)
+    → ((every n p ≡ false) × (i : ℕ) × (p i ≡ false) × ComesBy n i) ⊎ ((every n p ≡ true) × OfItems n (λ i. p i ≡ true))
+every_tells n p = go (every n p) refl
+  where
+    go : (b : Bool) → every n p ≡ b → ((every n p ≡ false) × (i : ℕ) × (p i ≡ false) × ComesBy n i) ⊎ ((every n p ≡ true) × OfItems n (λ i. p i ≡ true))
+    go true e = inr (e, of_items n (λ i. p i ≡ true) (λ i l. T_true (p i) (every_at n p (T-from e tt) i l)))
+    go false e = let w = every_fails n p e in inl (e, w.0, w.2, comes_by n w.0 w.1)
+
+pub ruleset range_tests = (any_tells, every_tells)
