@@ -1,12 +1,11 @@
 -- What `any` and `all` answer over the numbers below a bound, for `grind`: each test is told by the items of a range's runs.
-use Rattle.std.proofs.Common.{◌≡◌, ℕ, zero, suc, ◌+◌, ◌<◌, Bool, true, false, ◌&&◌, ◌⊎◌, Option, Some, None, IfSome, refl, ap, ◌∙◌, inl, inr, arith}
+use Rattle.std.proofs.Common.{◌≡◌, ℕ, ◌+◌, ◌<◌, Bool, true, false, ◌⊎◌, Option, Some, None, IfSome, ap, ◌∙◌, inl, inr, arith}
 use Rattle.std.specs.Iterator.Runs.{Run, EveryRun}
 use Rattle.std.specs.Option.{option_map}
 use Rattle.std.proofs.iter.Yields.{nat_range_steps}
 use Rattle.std.proofs.iter.runs.Sources.{range_runs}
 use Rattle.sites.specs.Bounded.{every, any}
-use Rattle.sites.proofs.Bounded.{every_at, any_some, some_any}
-use Rattle.sites.proofs.Tests.{T_true, T_false, T-by, T-from}
+use Rattle.sites.proofs.Bounded.{any_tells, every_tells}
 
 -- P of every run of a range from 0 to n
 abbrev OfRuns : ℕ → (Run nat_range_steps → Type 0) → Type 0
@@ -38,29 +37,16 @@ weaker (Some x) h p = h x p
 of_items : (n : ℕ) (P : ℕ → Type 0) → ((i : ℕ) → i < n → P i) → OfItems n P
 of_items n P h q _ start end k = weaker (q.at k) (λ x w. h x (omega (arith, w.1))) ((range_runs q q.seen).2 k)
 
-pub any_tells : (n : ℕ) (p : ℕ → Bool)
-    → ((any n p ≡ true) × (i : ℕ) × (p i ≡ true) × ComesBy n i) ⊎ ((any n p ≡ false) × OfItems n (λ i. p i ≡ false))
-any_tells n p = go (any n p) refl
-  where
-    go : (b : Bool) → any n p ≡ b → ((any n p ≡ true) × (i : ℕ) × (p i ≡ true) × ComesBy n i) ⊎ ((any n p ≡ false) × OfItems n (λ i. p i ≡ false))
-    go true e = let w = any_some n p (T-from e tt) in inl (e, w.0, T_true (p w.0) w.2, comes_by n w.0 w.1)
-    go false e = inr (e, of_items n (λ i. p i ≡ false) (λ i l. T_false (p i) (λ t. T-by e (some_any n p i l t))))
+pub any_ran : (n : ℕ) (p : ℕ → Bool) → ((any n p ≡ true) × (i : ℕ) × (p i ≡ true) × ComesBy n i) ⊎ ((any n p ≡ false) × OfItems n (λ i. p i ≡ false))
+any_ran n p = elim (any_tells n p) [
+  | inl w ↦ inl (w.0, w.1, w.3, comes_by n w.1 w.2)
+  | inr h ↦ inr (h.0, of_items n (λ i. p i ≡ false) h.1)
+]
 
-every_fails : (n : ℕ) (p : ℕ → Bool) → every n p ≡ false → (i : ℕ) × (i < n) × (p i ≡ false)
-every_fails zero p e = absurd (grind arith)
-every_fails (suc n) p e = go (every n p) (p n) (every_fails n p) refl e
-  where
-    go : (all here : Bool) → (all ≡ false → (i : ℕ) × (i < n) × (p i ≡ false)) → p n ≡ here → (all && here) ≡ false → (i : ℕ) × (i < suc n) × (p i ≡ false)
-    go all false rest h e = (n, omega arith, h)
-    go false true rest h e = let r = rest refl in (r.0, omega (arith, r.1), r.2)
-    go true true rest h e = absurd (grind arith)
+pub every_ran : (n : ℕ) (p : ℕ → Bool) → ((every n p ≡ false) × (i : ℕ) × (p i ≡ false) × ComesBy n i) ⊎ ((every n p ≡ true) × OfItems n (λ i. p i ≡ true))
+every_ran n p = elim (every_tells n p) [
+  | inl w ↦ inl (w.0, w.1, w.3, comes_by n w.1 w.2)
+  | inr h ↦ inr (h.0, of_items n (λ i. p i ≡ true) h.1)
+]
 
-pub every_tells : (n : ℕ) (p : ℕ → Bool)
-    → ((every n p ≡ false) × (i : ℕ) × (p i ≡ false) × ComesBy n i) ⊎ ((every n p ≡ true) × OfItems n (λ i. p i ≡ true))
-every_tells n p = go (every n p) refl
-  where
-    go : (b : Bool) → every n p ≡ b → ((every n p ≡ false) × (i : ℕ) × (p i ≡ false) × ComesBy n i) ⊎ ((every n p ≡ true) × OfItems n (λ i. p i ≡ true))
-    go true e = inr (e, of_items n (λ i. p i ≡ true) (λ i l. T_true (p i) (every_at n p (T-from e tt) i l)))
-    go false e = let w = every_fails n p e in inl (e, w.0, w.2, comes_by n w.0 w.1)
-
-pub ruleset range_tests = (any_tells, every_tells)
+pub ruleset range_tests = (any_ran, every_ran)
