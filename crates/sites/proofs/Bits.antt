@@ -42,13 +42,14 @@ low_bit n i = elim (cases_lt i n) [
   | inr g ↦ ap (λ x. eqb x 1) (bit_at_ones_above n i g) ∙ sym (le-ltb i n g)
 ]
 
--- the complement in w bits, for which the library has one width after the other
+-- the complement in w bits; the library's lemma on it takes a width of the machine
 flipped : (w x i : ℕ) → x < 2 ^ w → i < w → bit (2 ^ w - 1 - x) i ≡ 1 - bit x i
 flipped zero x i h l = absurd (omega arith)
 flipped (suc w) x zero h l = omega (arith, pow-suc 2 w, bit_at_lowest (2 ^ suc w - 1 - x), bit_at_lowest x)
 flipped (suc w) x (suc i) h l =
     let e : (2 ^ suc w - 1 - x) / 2 ≡ 2 ^ w - 1 - x / 2 = omega (arith, pow-suc 2 w) in
-    bit_at-suc (2 ^ suc w - 1 - x) i ∙ ap (λ y. bit y i) e ∙ flipped w (x / 2) i (omega (arith, pow-suc 2 w)) (omega arith) ∙ ap (λ b. 1 - b) (sym (bit_at-suc x i))
+    bit_at-suc (2 ^ suc w - 1 - x) i ∙ ap (λ y. bit y i) e
+    ∙ flipped w (x / 2) i (omega (arith, pow-suc 2 w)) (omega arith) ∙ ap (λ b. 1 - b) (sym (bit_at-suc x i))
 
 less_bit : (x : ℕ) → x < 2 → eqb (1 - x) 1 ≡ not (eqb x 1)
 less_bit x h = grind (arith, nat_tests)

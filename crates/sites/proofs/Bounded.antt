@@ -11,7 +11,8 @@ one_more P n below here i l = elim (cases_eq i n) [ inl e ↦ rw e here | inr ne
 
 -- each test with what it tells, by a number where it is decided
 abbrev AnyTells : ℕ → (ℕ → Bool) → Type 0
-AnyTells n p = ((any n p ≡ true) × (i : ℕ) × (i < n) × (p i ≡ true)) ⊎ ((any n p ≡ false) × ((i : ℕ) → i < n → p i ≡ false))
+AnyTells n p =
+    ((any n p ≡ true) × (i : ℕ) × (i < n) × (p i ≡ true)) ⊎ ((any n p ≡ false) × ((i : ℕ) → i < n → p i ≡ false))
 
 pub any_tells : (n : ℕ) (p : ℕ → Bool) → AnyTells n p
 any_tells zero p = inr (refl, λ i l. absurd (omega arith))
@@ -23,7 +24,8 @@ any_tells (suc n) p = go (any_tells n p) (cases_Bool (p n))
     go (inr r) (inr e) = inr (or_from _ _ r.0 e, one_more (λ i. p i ≡ false) n r.1 e)
 
 abbrev EveryTells : ℕ → (ℕ → Bool) → Type 0
-EveryTells n p = ((every n p ≡ false) × (i : ℕ) × (i < n) × (p i ≡ false)) ⊎ ((every n p ≡ true) × ((i : ℕ) → i < n → p i ≡ true))
+EveryTells n p =
+    ((every n p ≡ false) × (i : ℕ) × (i < n) × (p i ≡ false)) ⊎ ((every n p ≡ true) × ((i : ℕ) → i < n → p i ≡ true))
 
 pub every_tells : (n : ℕ) (p : ℕ → Bool) → EveryTells n p
 every_tells zero p = inr (refl, λ i l. absurd (omega arith))
@@ -46,7 +48,7 @@ pub fold_cong : {A X : Type 0} (f : X → A → X) (x : X) (n : ℕ) (p q : ℕ 
 fold_cong f x zero p q h = refl
 fold_cong f x (suc n) p q h = ap₂ f (fold_cong f x n p q (λ i l. h i (omega arith))) (h n (omega arith))
 
--- what is folded over the places of a list, as F of the list, where F of one element more is a step more
+-- a fold over the places of a list is F of the list, where F of one element more is a step more
 module _ {X A Y : Type 0} (F : List X → Y) (f : Y → A → Y) (p : ℕ → A) (xs : List X)
     (more : (i : ℕ) → i < length xs → F (take (i + 1) xs) ≡ f (F (take i xs)) (p i)) where
   fold_take : (n : ℕ) → n ≤ length xs → fold f (F []) n p ≡ F (take n xs)

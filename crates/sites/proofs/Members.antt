@@ -31,7 +31,8 @@ sites_below n l = ap (λ x. sites_in (x - 1)) (one_shl n max_sites l) ∙ within
 
 pub sites_all : (n : ℕ) → max_sites ≤ n → sites_in (2 ^ max_sites - 1) ≡ within (λ i. ltb i n)
 unfolding sites_in
-sites_all n h = within_same (bit_at (2 ^ max_sites - 1)) (λ i. ltb i n) (λ i l. low_bit max_sites i ∙ lt-ltb i max_sites l ∙ sym (lt-ltb i n (omega arith)))
+sites_all n h =
+    within_same (bit_at (2 ^ max_sites - 1)) (λ i. ltb i n) (λ i l. low_bit max_sites i ∙ lt-ltb i max_sites l ∙ sym (lt-ltb i n (omega arith)))
 
 -- one bit
 pub site_bit : (b i : ℕ) → i < max_sites → eqb (bit_and (b / 2 ^ i) 1) 1 ≡ sites_in b i
@@ -47,16 +48,19 @@ site_past b i h = ap (λ x. x && bit_at b i) (le-ltb i max_sites h)
 or_put : (x y a : Bool) → (x && (a || y)) ≡ (x && cond y true (x && a))
 or_put x y a = grind arith
 
-pub sites_with : (b s : ℕ) → s < max_sites → sites_in (bit_or b (1 * 2 ^ s % 2 ^ max_sites)) ≡ within (put s true (sites_in b))
+pub sites_with : (b s : ℕ) → s < max_sites
+    → sites_in (bit_or b (1 * 2 ^ s % 2 ^ max_sites)) ≡ within (put s true (sites_in b))
 unfolding sites_in
 sites_with b s l = ap (λ x. sites_in (bit_or b x)) (one_shl s max_sites l) ∙ fun_ext (λ i.
-    ap (λ x. ltb i max_sites && x) (or_bit b (2 ^ s) i ∙ ap (λ x. bit_at b i || x) (power_bit s i)) ∙ or_put (ltb i max_sites) (eqb i s) (bit_at b i))
+    ap (λ x. ltb i max_sites && x) (or_bit b (2 ^ s) i ∙ ap (λ x. bit_at b i || x) (power_bit s i))
+    ∙ or_put (ltb i max_sites) (eqb i s) (bit_at b i))
 
 -- a site is taken out
 and_put : (x y a : Bool) → (x && (a && not y)) ≡ cond y false (x && a)
 and_put x y a = grind arith
 
-pub sites_without : (b s : ℕ) → s < max_sites → sites_in (bit_and b (2 ^ max_sites - 1 - 1 * 2 ^ s % 2 ^ max_sites)) ≡ put s false (sites_in b)
+pub sites_without : (b s : ℕ) → s < max_sites
+    → sites_in (bit_and b (2 ^ max_sites - 1 - 1 * 2 ^ s % 2 ^ max_sites)) ≡ put s false (sites_in b)
 unfolding sites_in
 sites_without b s l = ap (λ x. sites_in (bit_and b (2 ^ max_sites - 1 - x))) (one_shl s max_sites l) ∙ fun_ext (λ i.
     and_under (ltb i max_sites) (bit_at (bit_and b (2 ^ max_sites - 1 - 2 ^ s)) i) (bit_at b i && not (eqb i s)) (λ u.
