@@ -1,9 +1,7 @@
 -- The rule by votes: sets with more votes than lie outside each other share a site.
-use Rattle.std.specs.Prelude.{◌≡◌, ℕ, zero, suc, ◌+◌, ◌<◌, ◌≤◌, min, Bool, true, false, cond, not, ◌&&◌, T, ◌⊎◌, List, length, take, nat_le, nat_lt, slice_index, refl}
-use Rattle.std.proofs.Common.{sym, ap, subst, ◌∙◌, inl, inr, arith, ltb→lt, leb→le}
+use Rattle.std.specs.Prelude.{◌≡◌, ℕ, zero, suc, ◌+◌, ◌<◌, ◌≤◌, Bool, true, false, cond, not, ◌&&◌, T, ◌⊎◌, List, length, nat_le, nat_lt, slice_index, refl}
+use Rattle.std.proofs.Common.{ap, subst, inl, inr, arith, ltb→lt, leb→le}
 use Rattle.std.proofs.Math.Path.{fun_ext}
-use Rattle.std.proofs.lemmas.List.{take_all}
-use Rattle.std.proofs.lemmas.Bool.{cases_lt}
 use Rattle.std.proofs.lemmas.Bool.Decides.{nat_tests}
 use Rattle.sites.specs.Bounded.{total}
 use Rattle.sites.specs.Sites.{Sites, SameBelow}
@@ -43,7 +41,7 @@ half_each true v = omega arith
 half_each false v = omega arith
 
 -- the votes of a set and those outside it are all votes
-split : (w : ℕ → ℕ) (s : Sites) (n : ℕ) → weight w s n + weight w (others s) n ≡ total n w
+pub split : (w : ℕ → ℕ) (s : Sites) (n : ℕ) → weight w s n + weight w (others s) n ≡ total n w
 split w s zero = refl
 split w s (suc n) = omega (arith, split w s n, half_each (s n) (w n))
 
@@ -88,10 +86,3 @@ guarded_is votes r q f =
 
 pub votes_lawful : VotesAreLawful
 votes_lawful votes r q f = subst Lawful (guarded_is votes r q f) (guarded_lawful votes r q)
-
--- the first n of a list, however many it has
-pub take_min : (n : ℕ) (l : List ℕ) → take (min n (length l)) l ≡ take n l
-take_min n l = elim (cases_lt n (length l)) [
-  | inl h ↦ let e : min n (length l) ≡ n = omega arith in ap (λ k. take k l) e
-  | inr h ↦ take_all (min n (length l)) l (omega arith) ∙ sym (take_all n l h)
-]

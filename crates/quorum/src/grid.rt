@@ -10,12 +10,13 @@ use refusal::{Layer, Reason, Refusal};
 use sites::SiteSet;
 
 /// A rule by a grid of sites: a set may read if every column has a member, and write if besides some column is whole.
-#[derive(Clone, Copy)]
+#[derive(Clone, Copy, PartialEq, Eq, Hash, Debug)]
 pub struct GridQuorum {
     sites: usize,
     columns: usize,
 }
 
+#[tactic(auto, using(sites::proofs::Ranges::range_tests))]
 impl GridQuorum {
     /// The rule of a grid of `sites` sites: site i stands in column i mod `columns`.
     pub fn new(sites: usize, rows: usize, columns: usize) -> Result<GridQuorum, Refusal>
@@ -23,10 +24,10 @@ impl GridQuorum {
         ensures rule { IfOk result (λ g. rule_of_grid g ≡ grid_rule sites columns) }
     {
         check_sites(sites)?;
-        match rows.checked_mul(columns) {
-            Some(product) if product == sites => Ok(GridQuorum { sites, columns }),
-            _ => Err(Refusal::new(Reason::BadGrid, Layer::Part, 0)),
+        if rows.checked_mul(columns) != Some(sites) {
+            return Err(Refusal::new(Reason::BadGrid, Layer::Part, 0));
         }
+        Ok(GridQuorum { sites, columns })
     }
 
     // Whether some site of a column is a member.
@@ -34,12 +35,7 @@ impl GridQuorum {
         requires { column < self.now.columns }
         ensures { result ≡ column_has self.now.sites self.now.columns (members set) column }
     {
-        for i in 0..self.sites {
-            if i % self.columns == column && set.contains(i) {
-                return true;
-            }
-        }
-        false
+        (0..self.sites).any(|site| site % self.columns == column && set.contains(site))
     }
 
     // Whether each site of a column is a member.
@@ -47,36 +43,21 @@ impl GridQuorum {
         requires { column < self.now.columns }
         ensures { result ≡ column_whole self.now.sites self.now.columns (members set) column }
     {
-        for i in 0..self.sites {
-            if i % self.columns == column && !set.contains(i) {
-                return false;
-            }
-        }
-        true
+        (0..self.sites).all(|site| site % self.columns != column || set.contains(site))
     }
 
     // Whether every column has a member.
     fn every_column(&self, set: SiteSet) -> bool
         ensures { result ≡ grid_reads self.now.sites self.now.columns (members set) }
     {
-        for column in 0..self.columns {
-            if !self.column_has(set, column) {
-                return false;
-            }
-        }
-        true
+        (0..self.columns).all(|column| self.column_has(set, column))
     }
 
     // Whether some column is whole.
     fn some_column(&self, set: SiteSet) -> bool
         ensures { result ≡ any self.now.columns (column_whole self.now.sites self.now.columns (members set)) }
     {
-        for candidate in 0..self.columns {
-            if self.column_whole(set, candidate) {
-                return true;
-            }
-        }
-        false
+        (0..self.columns).any(|column| self.column_whole(set, column))
     }
 }
 

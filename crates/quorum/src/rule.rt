@@ -29,7 +29,7 @@ pub trait QuorumRule {
 pub(crate) fn check_sites(sites: usize) -> Result<(), Refusal>
     ensures { result_err result ≡ sized sites None }
 {
-    if sites == 0 || sites > MAX_SITES {
+    if !(1..=MAX_SITES).contains(&sites) {
         return Err(Refusal::new(Reason::BadSizes, Layer::Part, 0));
     }
     Ok(())

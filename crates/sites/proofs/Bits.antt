@@ -1,97 +1,61 @@
--- The bits of numbers of any width: each law goes by halving, or by taking off the highest bit.
-use Rattle.std.proofs.Common.{◌≡◌, ℕ, zero, suc, ◌+◌, ◌-◌, ◌*◌, ◌/◌, ◌%◌, ◌^◌, ◌<◌, min, max, Bool, true, false, cond, not, ◌&&◌, ◌||◌, T, eqb, ltb, sym, refl, ap, ◌∙◌, ap₂, mod-lt, mod-eq_of_lt, pow-suc, one-add, arith, eqb→eq}
-use lib.Bits.{bit_and, bit_or, and_step, or_step, and_lt}
+-- The bits of numbers of any width, as tests: from the library's bits, which are numbers.
+use Rattle.std.proofs.Common.{◌≡◌, ℕ, zero, suc, ◌+◌, ◌-◌, ◌*◌, ◌/◌, ◌%◌, ◌^◌, ◌<◌, min, max, Bool, true, false, cond, not, ◌&&◌, ◌||◌, eqb, ltb, sym, refl, ap, ◌∙◌, inl, inr, mod-lt, mod-eq_of_lt, pow-suc, one-add, arith}
+use lib.Bits.{bit_and, bit_or, and_lt}
 use lib.Count.{ones, ones_cat}
-use lib.Dec.{eqb-zero-suc, eqb-suc-zero, eqb-suc-suc, leb-zero, leb-suc-zero, leb-suc-suc}
-use Rattle.std.proofs.lemmas.Nat.{pow_pos, shr-shr, and_mask, mod-pow-add}
-use Rattle.std.proofs.lemmas.Bool.{eq-eqb}
+use Rattle.std.specs.Int.{bit_at as bit}
+use Rattle.std.proofs.lemmas.Nat.{pow_pos, mod-pow-add}
+use Rattle.std.proofs.lemmas.Nat.Bits.{bit_at_lowest, bit_at-suc, bit_at-lt, shr_and_one, bit_at_and, bit_at_or, bit_at-pow_same, bit_at-pow_other, bit_at_ones, bit_at_ones_above, same_from_bits_below}
+use Rattle.std.proofs.lemmas.Bool.{cases_eq, cases_lt, eq-eqb, ne_eqb, lt-ltb, le-ltb}
 use Rattle.std.proofs.lemmas.Bool.Decides.{nat_tests}
 use Rattle.sites.specs.Bounded.{every, count, total, implies}
 use Rattle.sites.specs.Sites.{bit_at}
-use Rattle.sites.proofs.Bounded.{every_at, every_all, fold_cong}
-use Rattle.sites.proofs.Tests.{T-by, T-from, T_true, T-right, same_truth, implies-T, T-implies}
+use Rattle.sites.proofs.Bounded.{every_tells}
 
--- tests: what is implied adds nothing, and equal numbers pass
-and_absorbed : (x y : Bool) → (T x → T y) → (x && y) ≡ x
-and_absorbed true y h = T_true y (h tt)
-and_absorbed false y h = refl
+-- of two bits the larger is set where either is, and the smaller where both are
+max_bit : (x y : ℕ) → x < 2 → y < 2 → eqb (max x y) 1 ≡ (eqb x 1 || eqb y 1)
+max_bit x y p q = grind (arith, nat_tests)
 
-eq-T : (m n : ℕ) → m ≡ n → T (eqb m n)
-eq-T m n e = T-from (eq-eqb m n e) tt
+min_bit : (x y : ℕ) → x < 2 → y < 2 → eqb (min x y) 1 ≡ (eqb x 1 && eqb y 1)
+min_bit x y p q = grind (arith, nat_tests)
 
--- the lowest bit, and the others as those of the half
-bit_low : (b : ℕ) → bit_at b zero ≡ eqb (b % 2) 1
-bit_low b = let e : b / 1 ≡ b = omega arith in ap (λ x. eqb (x % 2) 1) e
-
-bit_half : (b i : ℕ) → bit_at b (suc i) ≡ bit_at (b / 2) i
-bit_half b i = ap (λ x. eqb (x % 2) 1) (ap (λ k. b / 2 ^ k) (sym (one-add i)) ∙ sym (shr-shr b 1 i))
-
--- an operation that halves with its arguments works on each bit as on the lowest
-module _ (op : ℕ → ℕ → ℕ) (on : Bool → Bool → Bool) (halves : (a b : ℕ) → op a b / 2 ≡ op (a / 2) (b / 2))
-    (low : (a b : ℕ) → eqb (op a b % 2) 1 ≡ on (eqb (a % 2) 1) (eqb (b % 2) 1)) where
-  op_bit : (a b i : ℕ) → bit_at (op a b) i ≡ on (bit_at a i) (bit_at b i)
-  op_bit a b zero = bit_low (op a b) ∙ low a b ∙ ap₂ on (sym (bit_low a)) (sym (bit_low b))
-  op_bit a b (suc i) =
-      bit_half (op a b) i ∙ ap (λ x. bit_at x i) (halves a b) ∙ op_bit (a / 2) (b / 2) i ∙ ap₂ on (sym (bit_half a i)) (sym (bit_half b i))
-
--- of two lowest bits the larger is set where either is, and the smaller where both are
-max_bit : (x y z : ℕ) → x < 2 → y < 2 → z ≡ max x y → eqb z 1 ≡ (eqb x 1 || eqb y 1)
-max_bit x y z p q e = grind (arith, nat_tests)
-
-min_bit : (x y z : ℕ) → x < 2 → y < 2 → z ≡ min x y → eqb z 1 ≡ (eqb x 1 && eqb y 1)
-min_bit x y z p q e = grind (arith, nat_tests)
-
--- or and and, bit by bit
 pub or_bit : (a b i : ℕ) → bit_at (bit_or a b) i ≡ (bit_at a i || bit_at b i)
-or_bit = op_bit bit_or ◌||◌ (λ a b. omega (arith, or_step a b))
-    (λ a b. max_bit (a % 2) (b % 2) (bit_or a b % 2) (omega arith) (omega arith) (omega (arith, or_step a b)))
+or_bit a b i = ap (λ x. eqb x 1) (bit_at_or a b i) ∙ max_bit (bit a i) (bit b i) (bit_at-lt a i) (bit_at-lt b i)
 
 pub and_bit : (a b i : ℕ) → bit_at (bit_and a b) i ≡ (bit_at a i && bit_at b i)
-and_bit = op_bit bit_and ◌&&◌ (λ a b. omega (arith, and_step a b))
-    (λ a b. min_bit (a % 2) (b % 2) (bit_and a b % 2) (omega arith) (omega arith) (omega (arith, and_step a b)))
+and_bit a b i = ap (λ x. eqb x 1) (bit_at_and a b i) ∙ min_bit (bit a i) (bit b i) (bit_at-lt a i) (bit_at-lt b i)
 
 -- what `bits >> i & 1 == 1` tests
 pub shifted_bit : (b i : ℕ) → eqb (bit_and (b / 2 ^ i) 1) 1 ≡ bit_at b i
-shifted_bit b i = ap (λ x. eqb x 1) (and_mask (b / 2 ^ i) 1)
-
--- no bit of 0 is set
-zero_bit : (i : ℕ) → bit_at zero i ≡ false
-zero_bit zero = refl
-zero_bit (suc i) = bit_half zero i ∙ zero_bit i
+shifted_bit b i = ap (λ x. eqb x 1) (shr_and_one b i)
 
 -- a power of two has one bit
 pub power_bit : (s i : ℕ) → bit_at (2 ^ s) i ≡ eqb i s
-power_bit zero zero = refl
-power_bit zero (suc i) = bit_half 1 i ∙ zero_bit i ∙ sym (eqb-suc-zero i)
-power_bit (suc s) zero =
-    let e : 2 ^ suc s % 2 ≡ 0 = omega (arith, pow-suc 2 s) in
-    bit_low (2 ^ suc s) ∙ ap (λ x. eqb x 1) e ∙ sym (eqb-zero-suc s)
-power_bit (suc s) (suc i) =
-    let e : 2 ^ suc s / 2 ≡ 2 ^ s = omega (arith, pow-suc 2 s) in
-    bit_half (2 ^ suc s) i ∙ ap (λ x. bit_at x i) e ∙ power_bit s i ∙ sym (eqb-suc-suc i s)
+power_bit s i = elim (cases_eq i s) [
+  | inl e ↦ ap (bit_at (2 ^ s)) e ∙ ap (λ x. eqb x 1) (bit_at-pow_same s) ∙ sym (eq-eqb i s e)
+  | inr ne ↦ ap (λ x. eqb x 1) (bit_at-pow_other s i ne) ∙ sym (ne_eqb i s ne)
+]
 
 -- below 2 ^ n all bits below n are set in the last number, and none above
 pub low_bit : (n i : ℕ) → bit_at (2 ^ n - 1) i ≡ ltb i n
-low_bit zero i = zero_bit i ∙ sym (leb-suc-zero i)
-low_bit (suc n) zero =
-    let e : (2 ^ suc n - 1) % 2 ≡ 1 = omega (arith, pow-suc 2 n, pow_pos n) in
-    bit_low (2 ^ suc n - 1) ∙ ap (λ x. eqb x 1) e ∙ sym (leb-suc-suc zero n ∙ leb-zero n)
-low_bit (suc n) (suc i) =
-    let e : (2 ^ suc n - 1) / 2 ≡ 2 ^ n - 1 = omega (arith, pow-suc 2 n) in
-    bit_half (2 ^ suc n - 1) i ∙ ap (λ x. bit_at x i) e ∙ low_bit n i ∙ sym (leb-suc-suc (suc i) n)
+low_bit n i = elim (cases_lt i n) [
+  | inl l ↦ ap (λ x. eqb x 1) (bit_at_ones n i l) ∙ sym (lt-ltb i n l)
+  | inr g ↦ ap (λ x. eqb x 1) (bit_at_ones_above n i g) ∙ sym (le-ltb i n g)
+]
 
--- 1 less a bit is the other bit
-flipped : (x y : ℕ) → x < 2 → y ≡ 1 - x → eqb y 1 ≡ not (eqb x 1)
-flipped x y h e = grind (arith, nat_tests)
-
--- the complement in w bits
-pub flip_bit : (w x i : ℕ) → x < 2 ^ w → i < w → bit_at (2 ^ w - 1 - x) i ≡ not (bit_at x i)
-flip_bit zero x i h l = absurd (omega arith)
-flip_bit (suc w) x zero h l =
-    bit_low (2 ^ suc w - 1 - x) ∙ flipped (x % 2) ((2 ^ suc w - 1 - x) % 2) (omega arith) (omega (arith, pow-suc 2 w)) ∙ ap not (sym (bit_low x))
-flip_bit (suc w) x (suc i) h l =
+-- the complement in w bits; the library's lemma on it takes a width of the machine
+flipped : (w x i : ℕ) → x < 2 ^ w → i < w → bit (2 ^ w - 1 - x) i ≡ 1 - bit x i
+flipped zero x i h l = absurd (omega arith)
+flipped (suc w) x zero h l = omega (arith, pow-suc 2 w, bit_at_lowest (2 ^ suc w - 1 - x), bit_at_lowest x)
+flipped (suc w) x (suc i) h l =
     let e : (2 ^ suc w - 1 - x) / 2 ≡ 2 ^ w - 1 - x / 2 = omega (arith, pow-suc 2 w) in
-    bit_half (2 ^ suc w - 1 - x) i ∙ ap (λ y. bit_at y i) e ∙ flip_bit w (x / 2) i (omega (arith, pow-suc 2 w)) (omega arith) ∙ ap not (sym (bit_half x i))
+    bit_at-suc (2 ^ suc w - 1 - x) i ∙ ap (λ y. bit y i) e
+    ∙ flipped w (x / 2) i (omega (arith, pow-suc 2 w)) (omega arith) ∙ ap (λ b. 1 - b) (sym (bit_at-suc x i))
+
+less_bit : (x : ℕ) → x < 2 → eqb (1 - x) 1 ≡ not (eqb x 1)
+less_bit x h = grind (arith, nat_tests)
+
+pub flip_bit : (w x i : ℕ) → x < 2 ^ w → i < w → bit_at (2 ^ w - 1 - x) i ≡ not (bit_at x i)
+flip_bit w x i h l = ap (λ y. eqb y 1) (flipped w x i h l) ∙ less_bit (bit x i) (bit_at-lt x i)
 
 -- the highest of suc w bits, and those below it
 top_bit : (b w : ℕ) → b % 2 ^ suc w ≡ (b / 2 ^ w % 2) * 2 ^ w + b % 2 ^ w
@@ -135,22 +99,15 @@ pub bits_count : (w b : ℕ) → b < 2 ^ w → ones b ≡ count w (bit_at b)
 bits_count w b h = ap ones (sym (mod-eq_of_lt h)) ∙ ones_counted b w
 
 -- the bits of a are all in b exactly where nothing of a is lost
+lost : (x y : Bool) → implies x y ≡ false → (x && y) ≡ x → ⊥
+lost x y e k = grind arith
+
+kept : (x y : ℕ) → x < 2 → y < 2 → implies (eqb x 1) (eqb y 1) ≡ true → min x y ≡ x
+kept x y p q e = grind (arith, nat_tests)
+
 pub bits_subset : (w a b : ℕ) → a < 2 ^ w → b < 2 ^ w → eqb (bit_and a b) a ≡ every w (λ i. implies (bit_at a i) (bit_at b i))
-bits_subset w a b p q = same_truth (eqb (bit_and a b) a) (every w (λ i. implies (bit_at a i) (bit_at b i))) there back
-  where
-    there : T (eqb (bit_and a b) a) → T (every w (λ i. implies (bit_at a i) (bit_at b i)))
-    there t =
-        let e = eqb→eq (bit_and a b) a t in
-        every_all w (λ i. implies (bit_at a i) (bit_at b i))
-        (λ i l. T-implies (bit_at a i) (bit_at b i) (λ u. T-right (bit_at a i) (bit_at b i) (T-by (sym (ap (λ x. bit_at x i) e) ∙ and_bit a b i) u)))
-
-    same : T (every w (λ i. implies (bit_at a i) (bit_at b i))) → (i : ℕ) → i < w → bit_at (bit_and a b) i ≡ bit_at a i
-    same t i l =
-        and_bit a b i ∙
-        and_absorbed (bit_at a i) (bit_at b i) (implies-T (bit_at a i) (bit_at b i) (every_at w (λ i. implies (bit_at a i) (bit_at b i)) t i l))
-
-    back : T (every w (λ i. implies (bit_at a i) (bit_at b i))) → T (eqb (bit_and a b) a)
-    back t = eq-T (bit_and a b) a
-        (bits_value w (bit_and a b) (and_lt w a b p q)
-        ∙ fold_cong ◌+◌ 0 w _ _ (λ i l. ap (λ x. cond x (2 ^ i) 0) (same t i l))
-        ∙ sym (bits_value w a p))
+bits_subset w a b p q = elim (every_tells w (λ i. implies (bit_at a i) (bit_at b i))) [
+  | inl f ↦ ne_eqb (bit_and a b) a (λ e. lost (bit_at a f.1) (bit_at b f.1) f.3 (sym (and_bit a b f.1) ∙ ap (λ x. bit_at x f.1) e)) ∙ sym f.0
+  | inr t ↦ eq-eqb (bit_and a b) a (same_from_bits_below w (bit_and a b) a (and_lt w a b p q) p (λ i l.
+      bit_at_and a b i ∙ kept (bit a i) (bit b i) (bit_at-lt a i) (bit_at-lt b i) (t.1 i l))) ∙ sym t.0
+]

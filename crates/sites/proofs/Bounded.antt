@@ -1,59 +1,59 @@
 -- Tests, counts and sums over the numbers below a bound.
-use Rattle.std.proofs.Common.{◌≡◌, ℕ, zero, suc, ◌+◌, ◌<◌, Bool, true, false, ◌&&◌, ◌||◌, T, ◌⊎◌, sym, refl, ap, ◌∙◌, ap₂, inl, inr, add-one, arith}
-use Rattle.std.proofs.lemmas.Bool.{cases_eq}
+use Rattle.std.proofs.Common.{◌≡◌, ℕ, zero, suc, ◌+◌, ◌<◌, ◌≤◌, Bool, true, false, T, ◌⊎◌, List, [], length, take, sym, refl, ap, ◌∙◌, ap₂, inl, inr, add-one, arith}
+use Rattle.std.proofs.lemmas.Bool.{cases_eq, cases_Bool, and_from, and_left, and_right, or_from, or_left, or_right}
+use Rattle.std.proofs.lemmas.List.{take_all}
 use Rattle.sites.specs.Bounded.{fold, every, any}
-use Rattle.sites.proofs.Tests.{T-left, T-right, T-both, T-either, T-or_left, T-or_right, T_true, T_false, T-by, T-from}
+use Rattle.sites.proofs.Tests.{T-by, T-from}
 
--- a number below suc n is n or below n
-pub last_or_below : (i n : ℕ) → i < suc n → (i ≡ n) ⊎ (i < n)
-last_or_below i n l = elim (cases_eq i n) [ inl e ↦ inl e | inr ne ↦ inr (omega arith) ]
+-- what holds below n and at n holds below suc n
+one_more : (P : ℕ → Type 0) (n : ℕ) → ((i : ℕ) → i < n → P i) → P n → (i : ℕ) → i < suc n → P i
+one_more P n below here i l = elim (cases_eq i n) [ inl e ↦ rw e here | inr ne ↦ below i (omega arith) ]
 
--- what holds of each holds of one, and the other way round
-pub every_at : (n : ℕ) (p : ℕ → Bool) → T (every n p) → (i : ℕ) → i < n → T (p i)
-every_at zero p h i l = absurd (omega arith)
-every_at (suc n) p h i l = elim (last_or_below i n l) [
-  | inl e ↦ rw e (T-right (every n p) (p n) h)
-  | inr b ↦ every_at n p (T-left (every n p) (p n) h) i b
-]
+-- each test with what it tells, by a number where it is decided
+abbrev AnyTells : ℕ → (ℕ → Bool) → Type 0
+AnyTells n p =
+    ((any n p ≡ true) × (i : ℕ) × (i < n) × (p i ≡ true)) ⊎ ((any n p ≡ false) × ((i : ℕ) → i < n → p i ≡ false))
 
-pub every_all : (n : ℕ) (p : ℕ → Bool) → ((i : ℕ) → i < n → T (p i)) → T (every n p)
-every_all zero p h = tt
-every_all (suc n) p h = T-both (every n p) (p n) (every_all n p (λ i l. h i (omega arith))) (h n (omega arith))
-
--- what holds of some
-pub any_some : (n : ℕ) (p : ℕ → Bool) → T (any n p) → (i : ℕ) × (i < n) × T (p i)
-any_some zero p h = absurd h
-any_some (suc n) p h = go (any_some n p) (T-either (any n p) (p n) h)
+pub any_tells : (n : ℕ) (p : ℕ → Bool) → AnyTells n p
+any_tells zero p = inr (refl, λ i l. absurd (omega arith))
+any_tells (suc n) p = go (any_tells n p) (cases_Bool (p n))
   where
-    go : (T (any n p) → (i : ℕ) × (i < n) × T (p i)) → T (any n p) ⊎ T (p n) → (i : ℕ) × (i < suc n) × T (p i)
-    go rest (inl a) = let r = rest a in (r.0, omega arith, r.2)
-    go rest (inr b) = (n, omega arith, b)
+    go : AnyTells n p → (p n ≡ true) ⊎ (p n ≡ false) → AnyTells (suc n) p
+    go (inl w) h = inl (or_left _ _ w.0, w.1, omega arith, w.3)
+    go (inr r) (inl e) = inl (or_right _ _ e, n, omega arith, e)
+    go (inr r) (inr e) = inr (or_from _ _ r.0 e, one_more (λ i. p i ≡ false) n r.1 e)
 
-pub some_any : (n : ℕ) (p : ℕ → Bool) (i : ℕ) → i < n → T (p i) → T (any n p)
-some_any zero p i l h = absurd (omega arith)
-some_any (suc n) p i l h = elim (last_or_below i n l) [
-  | inl e ↦ T-or_right (any n p) (p n) (rw e at h)
-  | inr b ↦ T-or_left (any n p) (p n) (some_any n p i b h)
-]
+abbrev EveryTells : ℕ → (ℕ → Bool) → Type 0
+EveryTells n p =
+    ((every n p ≡ false) × (i : ℕ) × (i < n) × (p i ≡ false)) ⊎ ((every n p ≡ true) × ((i : ℕ) → i < n → p i ≡ true))
 
--- one number more
-pub fold_more : {A X : Type 0} (f : X → A → X) (x : X) (n : ℕ) (p : ℕ → A) → fold f x (n + 1) p ≡ f (fold f x n p) (p n)
-fold_more f x n p = ap (λ k. fold f x k p) (add-one n)
+pub every_tells : (n : ℕ) (p : ℕ → Bool) → EveryTells n p
+every_tells zero p = inr (refl, λ i l. absurd (omega arith))
+every_tells (suc n) p = go (every_tells n p) (cases_Bool (p n))
+  where
+    go : EveryTells n p → (p n ≡ true) ⊎ (p n ≡ false) → EveryTells (suc n) p
+    go (inl w) h = inl (and_left _ _ w.0, w.1, omega arith, w.3)
+    go (inr r) (inr e) = inl (and_right _ _ e, n, omega arith, e)
+    go (inr r) (inl e) = inr (and_from _ _ r.0 e, one_more (λ i. p i ≡ true) n r.1 e)
+
+-- the same of a test that holds
+pub every_at : (n : ℕ) (p : ℕ → Bool) → T (every n p) → (i : ℕ) → i < n → T (p i)
+every_at n p h i l = elim (every_tells n p) [ inl w ↦ absurd (T-by w.0 h) | inr r ↦ T-from (r.1 i l) tt ]
+
+pub any_some : (n : ℕ) (p : ℕ → Bool) → T (any n p) → (i : ℕ) × (i < n) × T (p i)
+any_some n p h = elim (any_tells n p) [ inl w ↦ (w.1, w.2, T-from w.3 tt) | inr r ↦ absurd (T-by r.0 h) ]
 
 -- what is folded below n depends on nothing else
 pub fold_cong : {A X : Type 0} (f : X → A → X) (x : X) (n : ℕ) (p q : ℕ → A) → ((i : ℕ) → i < n → p i ≡ q i) → fold f x n p ≡ fold f x n q
 fold_cong f x zero p q h = refl
 fold_cong f x (suc n) p q h = ap₂ f (fold_cong f x n p q (λ i l. h i (omega arith))) (h n (omega arith))
 
--- a search that goes on while nothing was found, and what it answers where it stops
-pub none_more : (p : ℕ → Bool) (i : ℕ) → any i p ≡ false → p i ≡ false → any (i + 1) p ≡ false
-none_more p i none here = fold_more ◌||◌ false i p ∙ ap₂ ◌||◌ none here
+-- a fold over the places of a list is F of the list, where F of one element more is a step more
+module _ {X A Y : Type 0} (F : List X → Y) (f : Y → A → Y) (p : ℕ → A) (xs : List X)
+    (more : (i : ℕ) → i < length xs → F (take (i + 1) xs) ≡ f (F (take i xs)) (p i)) where
+  fold_take : (n : ℕ) → n ≤ length xs → fold f (F []) n p ≡ F (take n xs)
+  fold_take zero l = refl
+  fold_take (suc n) l = ap (λ y. f y (p n)) (fold_take n (omega arith)) ∙ sym (more n (omega arith)) ∙ ap (λ k. F (take k xs)) (add-one n)
 
-pub found : (n : ℕ) (p : ℕ → Bool) (i : ℕ) → i < n → p i ≡ true → true ≡ any n p
-found n p i l here = sym (T_true (any n p) (some_any n p i l (T-from here tt)))
-
-pub all_more : (p : ℕ → Bool) (i : ℕ) → every i p ≡ true → p i ≡ true → every (i + 1) p ≡ true
-all_more p i all here = fold_more ◌&&◌ true i p ∙ ap₂ ◌&&◌ all here
-
-pub broken : (n : ℕ) (p : ℕ → Bool) (i : ℕ) → i < n → p i ≡ false → false ≡ every n p
-broken n p i l here = sym (T_false (every n p) (λ t. T-by here (every_at n p t i l)))
+  pub fold_list : fold f (F []) (length xs) p ≡ F xs
+  fold_list = fold_take (length xs) (omega arith) ∙ ap F (take_all (length xs) xs (omega arith))

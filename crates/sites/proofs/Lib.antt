@@ -1,4 +1,5 @@
 pub mod Bits
 pub mod Bounded
 pub mod Members
+pub mod Ranges
 pub mod Tests

@@ -1,9 +1,9 @@
 -- What the operations on bits do to the sites that the bits stand for.
-use Rattle.std.proofs.Common.{◌≡◌, ℕ, ◌+◌, ◌-◌, ◌/◌, ◌^◌, ◌<◌, ◌≤◌, Bool, true, false, cond, not, ◌&&◌, ◌||◌, T, eqb, ltb, sym, refl, ap, ◌∙◌, ap₂, arith, ltb→lt}
+use Rattle.std.proofs.Common.{◌≡◌, ℕ, ◌+◌, ◌-◌, ◌*◌, ◌/◌, ◌%◌, ◌^◌, ◌<◌, ◌≤◌, Bool, true, false, cond, not, ◌&&◌, ◌||◌, T, eqb, ltb, sym, refl, ap, ◌∙◌, ap₂, arith, ltb→lt}
 use mathlib.Core.Path.{fun_ext}
 use lib.Bits.{bit_and, bit_or}
 use lib.Count.{ones}
-use Rattle.std.proofs.lemmas.Nat.{pow_below}
+use Rattle.std.proofs.lemmas.Nat.{pow_below, one_shl}
 use Rattle.std.proofs.lemmas.Bool.{lt-ltb, le-ltb}
 use Rattle.std.proofs.lemmas.Bool.Decides.{nat_tests}
 use Rattle.sites.specs.Bounded.{implies, put}
@@ -24,15 +24,15 @@ within_same s t h = fun_ext (λ i. and_under (ltb i max_sites) (s i) (t i) (λ u
 within_at : (s : Sites) (i : ℕ) → i < max_sites → within s i ≡ s i
 within_at s i l = ap (λ b. b && s i) (lt-ltb i max_sites l)
 
--- the bits below n
-pub sites_below : (n : ℕ) → sites_in (2 ^ n - 1) ≡ within (λ i. ltb i n)
+-- the bits below n: of `1 << n` less 1, and where n is too large for that, all
+pub sites_below : (n : ℕ) → n < max_sites → sites_in (1 * 2 ^ n % 2 ^ max_sites - 1) ≡ within (λ i. ltb i n)
 unfolding sites_in
-sites_below n = within_same (bit_at (2 ^ n - 1)) (λ i. ltb i n) (λ i l. low_bit n i)
+sites_below n l = ap (λ x. sites_in (x - 1)) (one_shl n max_sites l) ∙ within_same (bit_at (2 ^ n - 1)) (λ i. ltb i n) (λ i _. low_bit n i)
 
--- all bits
 pub sites_all : (n : ℕ) → max_sites ≤ n → sites_in (2 ^ max_sites - 1) ≡ within (λ i. ltb i n)
+unfolding sites_in
 sites_all n h =
-    sites_below max_sites ∙ within_same (λ i. ltb i max_sites) (λ i. ltb i n) (λ i l. lt-ltb i max_sites l ∙ sym (lt-ltb i n (omega arith)))
+    within_same (bit_at (2 ^ max_sites - 1)) (λ i. ltb i n) (λ i l. low_bit max_sites i ∙ lt-ltb i max_sites l ∙ sym (lt-ltb i n (omega arith)))
 
 -- one bit
 pub site_bit : (b i : ℕ) → i < max_sites → eqb (bit_and (b / 2 ^ i) 1) 1 ≡ sites_in b i
@@ -48,18 +48,21 @@ site_past b i h = ap (λ x. x && bit_at b i) (le-ltb i max_sites h)
 or_put : (x y a : Bool) → (x && (a || y)) ≡ (x && cond y true (x && a))
 or_put x y a = grind arith
 
-pub sites_with : (b s : ℕ) → sites_in (bit_or b (2 ^ s)) ≡ within (put s true (sites_in b))
+pub sites_with : (b s : ℕ) → s < max_sites
+    → sites_in (bit_or b (1 * 2 ^ s % 2 ^ max_sites)) ≡ within (put s true (sites_in b))
 unfolding sites_in
-sites_with b s = fun_ext (λ i.
-    ap (λ x. ltb i max_sites && x) (or_bit b (2 ^ s) i ∙ ap (λ x. bit_at b i || x) (power_bit s i)) ∙ or_put (ltb i max_sites) (eqb i s) (bit_at b i))
+sites_with b s l = ap (λ x. sites_in (bit_or b x)) (one_shl s max_sites l) ∙ fun_ext (λ i.
+    ap (λ x. ltb i max_sites && x) (or_bit b (2 ^ s) i ∙ ap (λ x. bit_at b i || x) (power_bit s i))
+    ∙ or_put (ltb i max_sites) (eqb i s) (bit_at b i))
 
 -- a site is taken out
 and_put : (x y a : Bool) → (x && (a && not y)) ≡ cond y false (x && a)
 and_put x y a = grind arith
 
-pub sites_without : (b s : ℕ) → s < max_sites → sites_in (bit_and b (2 ^ max_sites - 1 - 2 ^ s)) ≡ put s false (sites_in b)
+pub sites_without : (b s : ℕ) → s < max_sites
+    → sites_in (bit_and b (2 ^ max_sites - 1 - 1 * 2 ^ s % 2 ^ max_sites)) ≡ put s false (sites_in b)
 unfolding sites_in
-sites_without b s l = fun_ext (λ i.
+sites_without b s l = ap (λ x. sites_in (bit_and b (2 ^ max_sites - 1 - x))) (one_shl s max_sites l) ∙ fun_ext (λ i.
     and_under (ltb i max_sites) (bit_at (bit_and b (2 ^ max_sites - 1 - 2 ^ s)) i) (bit_at b i && not (eqb i s)) (λ u.
     and_bit b (2 ^ max_sites - 1 - 2 ^ s) i ∙
     ap (λ x. bit_at b i && x) (flip_bit max_sites (2 ^ s) i (pow_below s max_sites l) (ltb→lt i max_sites u) ∙ ap not (power_bit s i)))
@@ -104,3 +107,7 @@ module _ (b : ℕ) (h : b < 2 ^ max_sites) where
   sites_subset c k =
       bits_subset max_sites b c h k ∙
       fold_cong ◌&&◌ true max_sites _ _ (λ i l. ap₂ implies (sym (within_at (bit_at b) i l)) (sym (within_at (bit_at c) i l)))
+
+-- what the methods of `SiteSet` leave to be shown
+pub ruleset site_bits =
+    (sites_below, site_bit, site_past, sites_with, with_past, sites_without, without_past, sites_either, sites_value, sites_size, sites_subset)

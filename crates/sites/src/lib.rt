@@ -2,8 +2,6 @@
 
 #![tactic(auto)]
 
-mod site_bits;
 mod site_set;
 
-pub use site_bits::{MAX_SITES, SiteBits};
-pub use site_set::SiteSet;
+pub use site_set::{MAX_SITES, SiteBits, SiteSet};
