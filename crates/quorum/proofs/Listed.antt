@@ -57,7 +57,7 @@ votes_listed votes s =
 pub votes_split : (votes : List ℕ) (s : Sites) → votes_of votes (others s) + votes_of votes s ≡ all_votes votes
 votes_split votes s = omega (arith, split (λ i. get_or votes i 0) s (length votes))
 
-pub ruleset tallies = (all_votes_listed, votes_listed, votes_split, nat_tests)
+pub ruleset tallies = (all_votes_listed, votes_listed, votes_split)
 
 -- with fair thresholds the guarded rule is the plain one
 pub guards_always_hold : (votes : List ℕ) (r q : ℕ) → fair (all_votes votes) r q ≡ true → guarded_rule votes r q ≡ votes_rule votes r q

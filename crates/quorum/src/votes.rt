@@ -2,7 +2,7 @@ ghost use Rattle.std.specs.Prelude.{◌≡◌, ℕ, ◌*◌, ◌≤◌, length, 
 ghost use Rattle.std.specs.List.{enumerate_from};
 ghost use Rattle.std.specs.Result.{result_err};
 ghost use Rattle.sites.specs.Sites.{max_sites, members};
-ghost use Rattle.quorum.specs.Votes.{all_votes, small_votes, fair, votes_rule, votes_refusal, votes_in, rule_of_votes};
+ghost use Rattle.quorum.specs.Votes.{votes_of, others, all_votes, small_votes, fair, votes_rule, votes_refusal, votes_in, rule_of_votes};
 ghost use Rattle.quorum.specs.Tallies.{guarded_lawful};
 
 use crate::rule::{QuorumRule, check_sites};
@@ -44,6 +44,15 @@ fn all_votes(votes: &[u8]) -> usize
     ensures most { result ≤ 255 * max_sites }
 {
     votes.iter().map(|count| usize::from(*count)).sum()
+}
+
+// The votes of the sites outside a set.
+#[tactic(auto, using(crate::proofs::Listed::tallies))]
+fn votes_outside(votes: &[u8], set: SiteSet) -> usize
+    requires { length votes.now ≤ max_sites }
+    ensures { result ≡ votes_of votes.now (others (members set)) }
+{
+    all_votes(votes) - votes_of(votes, set)
 }
 
 // Whether no site has too many votes.
@@ -107,7 +116,7 @@ impl WeightedVotes {
     }
 }
 
-#[tactic(auto, using(crate::proofs::Listed::tallies))]
+#[tactic(auto, using(crate::proofs::Listed::votes_listed))]
 impl QuorumRule for WeightedVotes {
     ghost meaning = { rule_of_votes };
 
@@ -125,7 +134,7 @@ impl QuorumRule for WeightedVotes {
     // What it asks of the votes outside holds whenever the thresholds are fair; it keeps the rule lawful for any numbers.
     fn may_write(&self, set: SiteSet) -> bool {
         let inside = votes_of(self.votes(), set);
-        let outside = all_votes(self.votes()) - inside;
+        let outside = votes_outside(self.votes(), set);
         inside > self.write_above && outside <= self.read_above && outside <= self.write_above
     }
 }
