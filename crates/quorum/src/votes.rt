@@ -22,20 +22,6 @@ pub struct WeightedVotes {
     write_above: usize,
 }
 
-// The votes of a set.
-fn votes_of(votes: &[u8], set: SiteSet) -> usize
-    requires { length votes.now ≤ max_sites }
-    ensures value { result ≡ sum_by (λ (p : ℕ × ℕ). p.1) (filter (λ (p : ℕ × ℕ). members set p.0) (enumerate_from 0 votes.now)) }
-    ensures most { result ≤ sum votes.now }
-{
-    votes
-        .iter()
-        .enumerate()
-        .filter(|(site, _)| set.contains(*site))
-        .map(|(_, count)| usize::from(*count))
-        .sum()
-}
-
 // The votes of all sites.
 #[tactic(auto, using(crate::proofs::Listed::all_votes_bounded))]
 fn all_votes(votes: &[u8]) -> usize
@@ -44,34 +30,6 @@ fn all_votes(votes: &[u8]) -> usize
     ensures most { result ≤ 255 * max_sites }
 {
     votes.iter().map(|count| usize::from(*count)).sum()
-}
-
-// The votes of the sites outside a set.
-#[tactic(auto, using(crate::proofs::Listed::tallies))]
-fn votes_outside(votes: &[u8], set: SiteSet) -> usize
-    requires { length votes.now ≤ max_sites }
-    ensures { result ≡ votes_of votes.now (others (members set)) }
-{
-    all_votes(votes) - votes_of(votes, set)
-}
-
-// Whether no site has too many votes.
-#[tactic(auto, using(crate::proofs::Listed::small_tells))]
-fn are_small(votes: &[u8]) -> bool
-    ensures { result ≡ small_votes votes.now }
-{
-    votes.iter().all(|count| *count <= MAX_VOTES)
-}
-
-// Whether the thresholds can be exceeded, and sets that exceed them share a site.
-fn is_fair(all: usize, read_above: usize, write_above: usize) -> bool
-    requires { all ≤ 255 * max_sites }
-    ensures { result ≡ fair all read_above write_above }
-{
-    read_above < all
-        && write_above < all
-        && all <= read_above + write_above + 1
-        && all <= 2 * write_above + 1
 }
 
 // An array that begins with the votes.
@@ -96,15 +54,16 @@ impl WeightedVotes {
         ensures rule { IfOk result (λ w. rule_of_votes w ≡ votes_rule votes.now read_above write_above) }
     {
         check_sites(votes.len())?;
-        if !are_small(votes) || !is_fair(all_votes(votes), read_above, write_above) {
-            return Err(Refusal::new(Reason::BadVotes, Layer::Part, 0));
-        }
-        Ok(WeightedVotes {
+        let rule = WeightedVotes {
             sites: votes.len(),
             votes: padded(votes),
             read_above,
             write_above,
-        })
+        };
+        if !rule.is_small() || !rule.is_fair() {
+            return Err(Refusal::new(Reason::BadVotes, Layer::Part, 0));
+        }
+        Ok(rule)
     }
 
     // The votes of the sites that there are.
@@ -113,6 +72,46 @@ impl WeightedVotes {
         ensures few { length result.now ≤ max_sites }
     {
         &self.votes[..self.sites.min(MAX_SITES)]
+    }
+
+    // The votes of a set.
+    fn inside(&self, set: SiteSet) -> usize
+        ensures value { result ≡ sum_by (λ (p : ℕ × ℕ). p.1) (filter (λ (p : ℕ × ℕ). members set p.0) (enumerate_from 0 (votes_in self.now))) }
+        ensures most { result ≤ sum (votes_in self.now) }
+    {
+        self.votes()
+            .iter()
+            .enumerate()
+            .filter(|(site, _)| set.contains(*site))
+            .map(|(_, count)| usize::from(*count))
+            .sum()
+    }
+
+    // The votes of the sites outside a set.
+    #[tactic(auto, using(crate::proofs::Listed::tallies))]
+    fn outside(&self, set: SiteSet) -> usize
+        ensures { result ≡ votes_of (votes_in self.now) (others (members set)) }
+    {
+        all_votes(self.votes()) - self.inside(set)
+    }
+
+    // Whether no site has too many votes.
+    #[tactic(auto, using(crate::proofs::Listed::small_tells))]
+    fn is_small(&self) -> bool
+        ensures { result ≡ small_votes (votes_in self.now) }
+    {
+        self.votes().iter().all(|count| *count <= MAX_VOTES)
+    }
+
+    // Whether the thresholds can be exceeded, and sets that exceed them share a site.
+    fn is_fair(&self) -> bool
+        ensures { result ≡ fair (all_votes (votes_in self.now)) self.now.read_above self.now.write_above }
+    {
+        let all = all_votes(self.votes());
+        self.read_above < all
+            && self.write_above < all
+            && all <= self.read_above + self.write_above + 1
+            && all <= 2 * self.write_above + 1
     }
 }
 
@@ -128,13 +127,14 @@ impl QuorumRule for WeightedVotes {
     }
 
     fn may_read(&self, set: SiteSet) -> bool {
-        votes_of(self.votes(), set) > self.read_above
+        self.inside(set) > self.read_above
     }
 
     // What it asks of the votes outside holds whenever the thresholds are fair; it keeps the rule lawful for any numbers.
     fn may_write(&self, set: SiteSet) -> bool {
-        let inside = votes_of(self.votes(), set);
-        let outside = votes_outside(self.votes(), set);
-        inside > self.write_above && outside <= self.read_above && outside <= self.write_above
+        let outside = self.outside(set);
+        self.inside(set) > self.write_above
+            && outside <= self.read_above
+            && outside <= self.write_above
     }
 }
