@@ -1,4 +1,4 @@
-use crate::sizes::told;
+use crate::told::Told;
 use std::io;
 use store::{BLOCK_LEN, BlockStore};
 
@@ -6,72 +6,64 @@ const LENGTHS: [usize; 4] = [0, 127, 128, 129];
 
 const VERSIONS: [u16; 4] = [1, 65535, 0, 258];
 
-// What a block is read as: its version, and the bytes at both ends of the buffer, which begin as 9.
-fn look<S: BlockStore>(rt: &HostRuntime, store: &S, index: usize) -> io::Result<()> {
-    let mut buffer = [9; BLOCK_LEN];
-    let (number, place) = told(store.read(index, &mut buffer));
-    let version = match store.version(index) {
-        Ok(version) => version,
-        Err(_) => 0,
-    };
-    let first = buffer[0];
-    let last = buffer[BLOCK_LEN - 1];
-    println!(rt; "  read {index}: {number} {place}, version {version}, {first} to {last}")
+// A store, and what tells the cases that are tried at it.
+#[derive(Drop)]
+pub(crate) struct Cases<'a, P, S> {
+    pub(crate) rt: &'a P,
+    pub(crate) store: S,
 }
 
-fn lay<S: BlockStore>(
-    rt: &HostRuntime,
-    store: &mut S,
-    index: usize,
-    version: u16,
-) -> io::Result<()> {
-    let (number, place) = told(store.write(index, version, &[7; BLOCK_LEN]));
-    println!(rt; "  write {index} version {version}: {number} {place}")?;
-    look(rt, store, index)
-}
-
-// Every version at one index.
-fn versions<S: BlockStore>(rt: &HostRuntime, store: &mut S, index: usize) -> io::Result<()> {
-    for version in VERSIONS {
-        lay(rt, store, index, version)?;
+impl<P: Print, S: BlockStore> Cases<'_, P, S> {
+    // What a block is read as: its version, and the bytes at both ends of the buffer, which begin as 9.
+    fn look(&self, index: usize) -> io::Result<()> {
+        let mut buffer = [9; BLOCK_LEN];
+        let told = Told(self.store.read(index, &mut buffer));
+        let [first, .., last] = buffer;
+        let version = self.store.version(index).unwrap_or(0);
+        println!(self.rt; "  read {index}: {told}, version {version}, {first} to {last}")
     }
-    Ok(())
-}
 
-// A buffer, and then a block, of some length: what is refused leaves them as they were.
-fn part<S: BlockStore>(
-    rt: &HostRuntime,
-    store: &mut S,
-    index: usize,
-    bytes: &mut [u8],
-) -> io::Result<()> {
-    let length = bytes.len();
-    let (number, place) = told(store.read(index, bytes));
-    let first = bytes.first().copied().unwrap_or(0);
-    let (other, there) = told(store.write(index, 3, bytes));
-    println!(rt;
-        "  {length} bytes at {index}: read {number} {place}, buffer {first}, write {other} {there}"
-    )
-}
-
-fn lengths<S: BlockStore>(rt: &HostRuntime, store: &mut S, index: usize) -> io::Result<()> {
-    for length in LENGTHS {
-        let mut bytes = [8; 129];
-        part(rt, store, index, &mut bytes[0..length])?;
+    fn lay(&mut self, index: usize, version: u16) -> io::Result<()> {
+        let told = Told(self.store.write(index, version, &[7; BLOCK_LEN]));
+        println!(self.rt; "  write {index} version {version}: {told}")?;
+        self.look(index)
     }
-    look(rt, store, index)
-}
 
-pub(crate) fn all<S: BlockStore>(rt: &HostRuntime, store: &mut S) -> io::Result<()> {
-    let count = store.block_count();
-    let last = count.saturating_sub(1);
-    store.clear();
-    look(rt, store, last)?;
-    versions(rt, store, last)?;
-    lay(rt, store, count, 1)?;
-    lay(rt, store, 65535, 1)?;
-    lengths(rt, store, last)?;
-    lengths(rt, store, count)?;
-    store.clear();
-    look(rt, store, last)
+    // Every version at one index.
+    fn versions(&mut self, index: usize) -> io::Result<()> {
+        for version in VERSIONS {
+            self.lay(index, version)?;
+        }
+        Ok(())
+    }
+
+    // A buffer, and then a block, of some length: what is refused leaves them as they were.
+    fn part(&mut self, index: usize, bytes: &mut [u8]) -> io::Result<()> {
+        let length = bytes.len();
+        let read = Told(self.store.read(index, bytes));
+        let first = bytes.first().copied().unwrap_or(0);
+        let write = Told(self.store.write(index, 3, bytes));
+        println!(self.rt; "  {length} bytes at {index}: read {read}, buffer {first}, write {write}")
+    }
+
+    fn lengths(&mut self, index: usize) -> io::Result<()> {
+        for length in LENGTHS {
+            self.part(index, &mut [8; 129][..length])?;
+        }
+        self.look(index)
+    }
+
+    pub(crate) fn all(&mut self) -> io::Result<()> {
+        let count = self.store.block_count();
+        let last = count.saturating_sub(1);
+        self.store.clear();
+        self.look(last)?;
+        self.versions(last)?;
+        self.lay(count, 1)?;
+        self.lay(65535, 1)?;
+        self.lengths(last)?;
+        self.lengths(count)?;
+        self.store.clear();
+        self.look(last)
+    }
 }

@@ -1,54 +1,47 @@
 // What the stores leave in the memory that they were lent: the first five bytes of each slot and of each record.
+ghost use Rattle.std.specs.Prelude.{◌<◌};
+
 use log_store::LogStore;
 use slot_store::SlotStore;
 use std::io;
 use store::{BLOCK_LEN, BlockStore};
 
 // Writes to both blocks of a store, to one of them again and again, and once with version 0.
-fn fill<S: BlockStore>(store: &mut S, again: u16) {
-    let _ = store.write(0, 258, &[7; BLOCK_LEN]);
-    for n in 0..again {
-        let _ = store.write(1, n, &[8; BLOCK_LEN]);
+fn fill<S: BlockStore + Drop, E: Drop>(made: Result<S, E>, again: u16) {
+    if let Ok(mut store) = made {
+        let _ = store.write(0, 258, &[7; BLOCK_LEN]);
+        for version in 0..again {
+            let _ = store.write(1, version, &[8; BLOCK_LEN]);
+        }
     }
 }
 
-fn row(rt: &HostRuntime, at: usize, bytes: &[u8]) -> io::Result<()> {
-    match bytes {
-        [a, b, c, d, e, ..] => println!(rt; "  byte {at}: {a} {b} {c} {d} {e}"),
-        _ => Ok(()),
-    }
-}
-
-fn rows(rt: &HostRuntime, memory: &[u8], step: usize) -> io::Result<()> {
-    let mut at = 0;
-    for part in memory.chunks(step.max(1)) {
-        row(rt, at, part)?;
-        at = step.saturating_add(at);
+fn rows(rt: &impl Print, memory: &[u8], step: usize) -> io::Result<()>
+    requires { 0 < step }
+{
+    for (at, part) in (0..memory.len()).step_by(step).zip(memory.chunks(step)) {
+        if let [a, b, c, d, e, ..] = part {
+            println!(rt; "  byte {at}: {a} {b} {c} {d} {e}")?;
+        }
     }
     Ok(())
 }
 
-fn slots(rt: &HostRuntime, again: u16) -> io::Result<()> {
+fn slots(rt: &impl Print, again: u16) -> io::Result<()> {
     let mut memory = [9; 260];
-    if let Ok(store) = SlotStore::new(2, &mut memory) {
-        let mut store = store;
-        fill(&mut store, again);
-    }
+    fill(SlotStore::new(2, &mut memory), again);
     println!(rt; "slots after {again} writes to block 1")?;
     rows(rt, &memory, 130)
 }
 
-fn log(rt: &HostRuntime, again: u16) -> io::Result<()> {
+fn log(rt: &impl Print, again: u16) -> io::Result<()> {
     let mut memory = [9; 792];
-    if let Ok(store) = LogStore::new(2, 3, &mut memory) {
-        let mut store = store;
-        fill(&mut store, again);
-    }
+    fill(LogStore::new(2, 3, &mut memory), again);
     println!(rt; "log after {again} writes to block 1")?;
     rows(rt, &memory, 132)
 }
 
-pub(crate) fn all(rt: &HostRuntime) -> io::Result<()> {
+pub(crate) fn all(rt: &impl Print) -> io::Result<()> {
     slots(rt, 0)?;
     slots(rt, 1)?;
     slots(rt, 2)?;

@@ -6,36 +6,41 @@ mod cases;
 mod churn;
 mod layout;
 mod sizes;
+mod told;
 
+use cases::Cases;
 use log_store::LogStore;
 use slot_store::SlotStore;
-use std::io;
+use std::{fmt, io};
 use store::BlockStore;
 
-fn slots(rt: &HostRuntime, blocks: usize, memory: &mut [u8]) -> io::Result<()> {
-    match SlotStore::new(blocks, memory) {
+// Tries every case at a store that was made.
+fn store<S: BlockStore + Drop, E: Drop>(
+    rt: &impl Print,
+    made: Result<S, E>,
+    title: impl fmt::Display + Drop,
+) -> io::Result<()> {
+    match made {
         Ok(store) => {
-            let mut store = store;
-            println!(rt; "slots, {blocks} blocks")?;
-            cases::all(rt, &mut store)
+            println!(rt; "{title}")?;
+            Cases { rt, store }.all()
         }
         Err(_) => println!(rt; "refused"),
     }
 }
 
-fn log(rt: &HostRuntime, blocks: usize, records: usize, memory: &mut [u8]) -> io::Result<()> {
-    match LogStore::new(blocks, records, memory) {
-        Ok(store) => {
-            let mut store = store;
-            println!(rt; "log, {blocks} blocks, {records} records in each half")?;
-            cases::all(rt, &mut store)
-        }
-        Err(_) => println!(rt; "refused"),
-    }
+fn slots(rt: &impl Print, blocks: usize, memory: &mut [u8]) -> io::Result<()> {
+    let title = format_args!("slots, {blocks} blocks");
+    store(rt, SlotStore::new(blocks, memory), title)
+}
+
+fn log(rt: &impl Print, blocks: usize, records: usize, memory: &mut [u8]) -> io::Result<()> {
+    let title = format_args!("log, {blocks} blocks, {records} records in each half");
+    store(rt, LogStore::new(blocks, records, memory), title)
 }
 
 // Stores of the smallest and of the largest sizes, over memory that held something else.
-fn stores(rt: &HostRuntime) -> io::Result<()> {
+fn stores(rt: &impl Print) -> io::Result<()> {
     slots(rt, 1, &mut [1; 130])?;
     slots(rt, 256, &mut [1; 33280])?;
     log(rt, 1, 2, &mut [1; 528])?;

@@ -1,8 +1,5 @@
-ghost use Rattle.std.specs.Prelude.{◌≡◌, Ok, Err};
-ghost use Rattle.refusal.specs.Reasons.{fixed};
-
+use crate::told::Told;
 use log_store::LogStore;
-use refusal::Refusal;
 use slot_store::SlotStore;
 use std::io;
 
@@ -37,35 +34,23 @@ const LOGS: [(usize, usize, usize); 14] = [
     (65535, 65535, 0),
 ];
 
-// The number of a refusal, or 0, and its place.
-pub(crate) fn told(outcome: Result<(), Refusal>) -> (u8, usize)
-    ensures { elim outcome [ Ok x ↦ (result.0 ≡ 0) × (result.1 ≡ 0) | Err e ↦ (result.0 ≡ (fixed e.reason).number) × (result.1 ≡ e.place) ] }
-{
-    match outcome {
-        Ok(()) => (0, 0),
-        Err(refusal) => (refusal.reason.number(), refusal.place),
-    }
-}
-
-fn slots(rt: &HostRuntime) -> io::Result<()> {
+fn slots(rt: &impl Print) -> io::Result<()> {
     for (blocks, bytes) in SLOTS {
-        let (number, place) = told(SlotStore::check(blocks, bytes));
-        println!(rt; "slots for {blocks} blocks in {bytes} bytes: {number} {place}")?;
+        let told = Told(SlotStore::check(blocks, bytes));
+        println!(rt; "slots for {blocks} blocks in {bytes} bytes: {told}")?;
     }
     Ok(())
 }
 
-fn logs(rt: &HostRuntime) -> io::Result<()> {
+fn logs(rt: &impl Print) -> io::Result<()> {
     for (blocks, records, bytes) in LOGS {
-        let (number, place) = told(LogStore::check(blocks, records, bytes));
-        println!(rt;
-            "log for {blocks} blocks with {records} records in {bytes} bytes: {number} {place}"
-        )?;
+        let told = Told(LogStore::check(blocks, records, bytes));
+        println!(rt; "log for {blocks} blocks with {records} records in {bytes} bytes: {told}")?;
     }
     Ok(())
 }
 
-pub(crate) fn all(rt: &HostRuntime) -> io::Result<()> {
+pub(crate) fn all(rt: &impl Print) -> io::Result<()> {
     slots(rt)?;
     logs(rt)
 }

@@ -1,4 +1,5 @@
 // Quorum rules at the edges of what they take, asked for every set of sites.
+use crate::show::Votes;
 use quorum::{GridQuorum, QuorumRule, WeightedVotes};
 use refusal::Refusal;
 use sites::{SiteBits, SiteSet};
@@ -57,53 +58,37 @@ const GRIDS: [(usize, usize, usize); 21] = [
     (usize::MAX, usize::MAX, 1),
 ];
 
-// 1 where the set may read, 2 where it may write, 3 where it may do both.
-fn digit<Q: QuorumRule>(rule: &Q, set: SiteSet) -> u8 {
-    match (rule.may_read(set), rule.may_write(set)) {
-        (false, false) => 0,
-        (true, false) => 1,
-        (false, true) => 2,
-        (true, true) => 3,
-    }
-}
-
-// A digit for each set, in the order of their bits.
-fn digits<Q: QuorumRule>(rt: &HostRuntime, rule: &Q) -> io::Result<()> {
+// A digit for each set, in the order of their bits: 1 where the set may read, 2 where it may write, 3 where it may do both.
+fn digits(rt: &impl Print, rule: &impl QuorumRule) -> io::Result<()> {
     for bits in 0..=SiteBits::MAX {
-        let digit = digit(rule, SiteSet::from_bits(bits));
+        let set = SiteSet::from_bits(bits);
+        let digit = u8::from(rule.may_read(set)) + 2 * u8::from(rule.may_write(set));
         print!(rt; "{digit}")?;
     }
     println!(rt; "")
 }
 
-fn outcome<Q: QuorumRule + Drop>(rt: &HostRuntime, made: Result<Q, Refusal>) -> io::Result<()> {
+fn outcome<Q: QuorumRule + Drop>(rt: &impl Print, made: Result<Q, Refusal>) -> io::Result<()> {
     match made {
         Ok(rule) => {
             let count = rule.site_count();
             println!(rt; "{count} sites")?;
             digits(rt, &rule)
         }
-        Err(refusal) => {
-            let number = refusal.reason.number();
-            let place = refusal.place;
-            println!(rt; "{number} {place}")
-        }
+        Err(refusal) => println!(rt; "{} {}", refusal.reason.number(), refusal.place),
     }
 }
 
-fn votes(rt: &HostRuntime) -> io::Result<()> {
+fn votes(rt: &impl Print) -> io::Result<()> {
     for (votes, read_above, write_above) in VOTES {
-        print!(rt; "votes")?;
-        for count in votes {
-            print!(rt; " {count}")?;
-        }
-        print!(rt; " above {read_above} and {write_above}: ")?;
+        let counts = Votes(votes);
+        print!(rt; "{counts} above {read_above} and {write_above}: ")?;
         outcome(rt, WeightedVotes::new(votes, read_above, write_above))?;
     }
     Ok(())
 }
 
-fn grids(rt: &HostRuntime) -> io::Result<()> {
+fn grids(rt: &impl Print) -> io::Result<()> {
     for (sites, rows, columns) in GRIDS {
         print!(rt; "{sites} sites, {rows} rows, {columns} columns: ")?;
         outcome(rt, GridQuorum::new(sites, rows, columns))?;
@@ -111,7 +96,7 @@ fn grids(rt: &HostRuntime) -> io::Result<()> {
     Ok(())
 }
 
-pub(crate) fn all(rt: &HostRuntime) -> io::Result<()> {
+pub(crate) fn all(rt: &impl Print) -> io::Result<()> {
     votes(rt)?;
     grids(rt)
 }

@@ -1,20 +1,30 @@
-use refusal::{Reason, Refusal};
-use std::io;
+use sites::{MAX_SITES, SiteSet};
+use std::fmt;
 
-// The reason in words, where it is one for which a rule is not made.
-fn words(reason: Reason) -> &'static str {
-    match reason {
-        Reason::BadSizes => "sizes out of their limits",
-        Reason::BadVotes => "votes that make no rule",
-        Reason::BadGrid => "rows and columns that make no grid",
-        _ => "a reason that no rule has",
+// The members of a set, in braces.
+#[derive(Drop)]
+pub(crate) struct Members(pub(crate) SiteSet);
+
+impl fmt::Display for Members {
+    fn fmt<W: fmt::Write>(&self, f: &mut fmt::Formatter<W>) -> fmt::Result {
+        f.write_str("{")?;
+        for site in (0..MAX_SITES).filter(|&site| self.0.contains(site)) {
+            write!(f, " {site}")?;
+        }
+        f.write_str(" }")
     }
 }
 
-pub(crate) fn refused(rt: &HostRuntime, refusal: Refusal) -> io::Result<()> {
-    let text = words(refusal.reason);
-    let number = refusal.reason.number();
-    let layer = refusal.layer.number();
-    let place = refusal.place;
-    println!(rt; "refused, {text} (number {number}, layer {layer}, place {place})")
+// How many votes each site has.
+#[derive(Drop)]
+pub(crate) struct Votes<'a>(pub(crate) &'a [u8]);
+
+impl fmt::Display for Votes<'_> {
+    fn fmt<W: fmt::Write>(&self, f: &mut fmt::Formatter<W>) -> fmt::Result {
+        f.write_str("votes")?;
+        for count in self.0 {
+            write!(f, " {count}")?;
+        }
+        Ok(())
+    }
 }

@@ -1,8 +1,8 @@
 // Quorum rules at work.
-use crate::show::refused;
+use crate::show::{Members, Votes};
 use quorum::{GridQuorum, QuorumRule, WeightedVotes};
 use refusal::Refusal;
-use sites::{MAX_SITES, SiteSet};
+use sites::SiteSet;
 use std::io;
 
 // Some sets of sites; the last has members that no rule for six sites counts.
@@ -17,37 +17,23 @@ const SETS: [&[usize]; 7] = [
 ];
 
 fn set_of(members: &[usize]) -> SiteSet {
-    let mut set = SiteSet::full(0);
-    for site in members {
-        set = set.with(*site);
-    }
-    set
+    members
+        .iter()
+        .fold(SiteSet::full(0), |set, &site| set.with(site))
 }
 
-fn print_set(rt: &HostRuntime, set: SiteSet) -> io::Result<()> {
-    print!(rt; "  the set {{")?;
-    for site in 0..MAX_SITES {
-        if set.contains(site) {
-            print!(rt; " {site}")?;
-        }
-    }
-    print!(rt; " }}")
+fn tell_set(rt: &impl Print, rule: &impl QuorumRule, set: SiteSet) -> io::Result<()> {
+    let members = Members(set);
+    let allowed = match (rule.may_read(set), rule.may_write(set)) {
+        (true, true) => "read and write",
+        (true, false) => "read and not write",
+        (false, true) => "write and not read",
+        (false, false) => "do neither",
+    };
+    println!(rt; "  the set {members} may {allowed}")
 }
 
-fn tell_set<Q: QuorumRule>(rt: &HostRuntime, rule: &Q, set: SiteSet) -> io::Result<()> {
-    print_set(rt, set)?;
-    match (rule.may_read(set), rule.may_write(set)) {
-        (true, true) => println!(rt; " may read and write"),
-        (true, false) => println!(rt; " may read and not write"),
-        (false, true) => println!(rt; " may write and not read"),
-        (false, false) => println!(rt; " may do neither"),
-    }
-}
-
-fn tell_rule<Q: QuorumRule>(rt: &HostRuntime, made: Result<Q, Refusal>) -> io::Result<()>
-where
-    Q: Drop,
-{
+fn tell_rule<Q: QuorumRule + Drop>(rt: &impl Print, made: Result<Q, Refusal>) -> io::Result<()> {
     match made {
         Ok(rule) => {
             let count = rule.site_count();
@@ -57,30 +43,27 @@ where
             }
             Ok(())
         }
-        Err(refusal) => refused(rt, refusal),
+        Err(refusal) => println!(rt; "refused, {refusal}"),
     }
 }
 
 fn tell_votes(
-    rt: &HostRuntime,
+    rt: &impl Print,
     votes: &[u8],
     read_above: usize,
     write_above: usize,
 ) -> io::Result<()> {
-    print!(rt; "votes")?;
-    for count in votes {
-        print!(rt; " {count}")?;
-    }
-    print!(rt; ", more than {read_above} to read and than {write_above} to write: ")?;
+    let counts = Votes(votes);
+    print!(rt; "{counts}, more than {read_above} to read and than {write_above} to write: ")?;
     tell_rule(rt, WeightedVotes::new(votes, read_above, write_above))
 }
 
-fn tell_grid(rt: &HostRuntime, sites: usize, rows: usize, columns: usize) -> io::Result<()> {
+fn tell_grid(rt: &impl Print, sites: usize, rows: usize, columns: usize) -> io::Result<()> {
     print!(rt; "{sites} sites in {rows} rows and {columns} columns: ")?;
     tell_rule(rt, GridQuorum::new(sites, rows, columns))
 }
 
-pub(crate) fn tell(rt: &HostRuntime) -> io::Result<()> {
+pub(crate) fn tell(rt: &impl Print) -> io::Result<()> {
     println!(rt; "quorum rules say which sets of sites may read and which may write:")?;
     tell_votes(rt, &[1, 1, 1], 1, 1)?;
     tell_votes(rt, &[1, 1, 1, 1], 1, 1)?;

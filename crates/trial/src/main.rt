@@ -2,15 +2,16 @@
 
 #![tactic(auto)]
 
-mod show;
-mod steps;
+mod outcome;
+mod teller;
 
-use log_store::{Half, LogStore};
+use log_store::LogStore;
+use outcome::Outcome;
 use refusal::Refusal;
 use replicas::{Joined, Replicas, Single};
 use slot_store::SlotStore;
 use std::io;
-use steps::{clear_site, read_all, read_block, read_into, write_all, write_block};
+use teller::Teller;
 
 // How many blocks each store has, and how many records each half of the log has room for.
 const BLOCKS: usize = 4;
@@ -18,94 +19,91 @@ const BLOCKS: usize = 4;
 const RECORDS: usize = 6;
 
 // The bytes that this takes: 130 for each slot, and 132 for each record of both halves.
-const SLOTS_LEN: usize = 520;
+const SLOTS_LEN: usize = 130 * BLOCKS;
 
-const LOG_LEN: usize = 1584;
+const LOG_LEN: usize = 2 * 132 * RECORDS;
 
 type Row<'a> = Joined<Single<SlotStore<'a>>, Joined<Single<LogStore<'a>>, Single<SlotStore<'a>>>>;
 
 // A slot store, a log store and a slot store, one behind the other.
 fn join<'a>(a: &'a mut [u8], b: &'a mut [u8], c: &'a mut [u8]) -> Result<Row<'a>, Refusal> {
-    let first = Single {
-        store: SlotStore::new(BLOCKS, a)?,
-    };
-    let second = Single {
-        store: LogStore::new(BLOCKS, RECORDS, b)?,
-    };
-    let third = Single {
-        store: SlotStore::new(BLOCKS, c)?,
-    };
-    let rest = Joined {
-        first: second,
-        second: third,
-    };
     Ok(Joined {
-        first,
-        second: rest,
+        first: Single {
+            store: SlotStore::new(BLOCKS, a)?,
+        },
+        second: Joined {
+            first: Single {
+                store: LogStore::new(BLOCKS, RECORDS, b)?,
+            },
+            second: Single {
+                store: SlotStore::new(BLOCKS, c)?,
+            },
+        },
     })
 }
 
-fn tell_sizes(rt: &HostRuntime) -> io::Result<()> {
-    print!(rt; "a log of 4 blocks needs room for 5 records in each half; with 4: ")?;
-    show::outcome(rt, LogStore::check(BLOCKS, BLOCKS, LOG_LEN))?;
-    print!(rt; "slots for 4 blocks take 520 bytes; in 519: ")?;
-    show::outcome(rt, SlotStore::check(BLOCKS, SLOTS_LEN - 1))
+fn tell_sizes(rt: &impl Print) -> io::Result<()> {
+    let log = Outcome(LogStore::check(BLOCKS, BLOCKS, LOG_LEN));
+    println!(rt; "a log of 4 blocks needs room for 5 records in each half; with 4: {log}")?;
+    let slots = Outcome(SlotStore::check(BLOCKS, SLOTS_LEN - 1));
+    println!(rt; "slots for 4 blocks take 520 bytes; in 519: {slots}")
 }
 
-fn tell_log(rt: &HostRuntime, log: &LogStore) -> io::Result<()> {
-    let count = log.record_count();
-    match log.half_in_use() {
-        Half::First => println!(rt; "  the log has its first half in use, with {count} records"),
-        Half::Second => println!(rt; "  the log has its second half in use, with {count} records"),
+impl<P: Print> Teller<'_, P, Row<'_>> {
+    fn tell_log(&self) -> io::Result<()> {
+        let log = &self.row.second.first.store;
+        let half = log.half_in_use();
+        let count = log.record_count();
+        println!(self.rt; "  the log has its {half} half in use, with {count} records")
     }
-}
 
-// Writes at the log until its half is full, and once more.
-fn tell_compaction(rt: &HostRuntime, row: &mut Row) -> io::Result<()> {
-    tell_log(rt, &row.second.first.store)?;
-    write_block(rt, row, 1, 2, 2, 32)?;
-    write_block(rt, row, 1, 2, 3, 33)?;
-    tell_log(rt, &row.second.first.store)?;
-    write_block(rt, row, 1, 0, 2, 34)?;
-    tell_log(rt, &row.second.first.store)?;
-    read_all(rt, row, 1, BLOCKS)
-}
+    // Writes at the log until its half is full, and once more.
+    fn tell_compaction(&mut self) -> io::Result<()> {
+        self.tell_log()?;
+        self.write_block(1, 2, 2, 32)?;
+        self.write_block(1, 2, 3, 33)?;
+        self.tell_log()?;
+        self.write_block(1, 0, 2, 34)?;
+        self.tell_log()?;
+        self.read_all(1, BLOCKS)
+    }
 
-// Writes at the first and the last site, which leaves the others as they are.
-fn tell_slots(rt: &HostRuntime, row: &mut Row) -> io::Result<()> {
-    write_block(rt, row, 0, 0, 1, 10)?;
-    write_block(rt, row, 2, 3, 65535, 12)?;
-    read_block(rt, row, 0, 0)?;
-    read_block(rt, row, 1, 0)?;
-    read_block(rt, row, 2, 0)?;
-    read_block(rt, row, 2, 3)
-}
+    // Writes at the first and the last site, which leaves the others as they are.
+    fn tell_slots(&mut self) -> io::Result<()> {
+        self.write_block(0, 0, 1, 10)?;
+        self.write_block(2, 3, 65535, 12)?;
+        self.read_block(0, 0)?;
+        self.read_block(1, 0)?;
+        self.read_block(2, 0)?;
+        self.read_block(2, 3)
+    }
 
-fn tell_refusals(rt: &HostRuntime, row: &mut Row) -> io::Result<()> {
-    read_block(rt, row, 3, 0)?;
-    read_block(rt, row, 2, BLOCKS)?;
-    write_block(rt, row, 1, BLOCKS, 9, 99)?;
-    read_into(rt, row, 0, 0, &mut [99; 127])?;
-    clear_site(rt, row, 7)
-}
+    fn tell_refusals(&mut self) -> io::Result<()> {
+        self.read_block(3, 0)?;
+        self.read_block(2, BLOCKS)?;
+        self.write_block(1, BLOCKS, 9, 99)?;
+        self.read_into(0, 0, &mut [99; 127])?;
+        self.clear_site(7)
+    }
 
-fn tell(rt: &HostRuntime, row: &mut Row) -> io::Result<()> {
-    let sites = row.site_count();
-    println!(rt;
-        "{sites} sites with {BLOCKS} blocks each: slots, a log of {RECORDS} records in each half, slots"
-    )?;
-    tell_slots(rt, row)?;
-    println!(rt; "a log that fills up is compacted into its other half:")?;
-    write_all(rt, row, 1, BLOCKS)?;
-    tell_compaction(rt, row)?;
-    println!(rt; "what is refused changes nothing:")?;
-    tell_refusals(rt, row)?;
-    println!(rt; "version 0 is blank, written or cleared:")?;
-    write_block(rt, row, 2, 3, 0, 77)?;
-    read_block(rt, row, 2, 3)?;
-    clear_site(rt, row, 1)?;
-    tell_log(rt, &row.second.first.store)?;
-    read_all(rt, row, 1, BLOCKS)
+    fn tell(&mut self) -> io::Result<()> {
+        let sites = self.row.site_count();
+        println!(self.rt;
+            "{sites} sites with {BLOCKS} blocks each: slots, a log of {RECORDS} records in each half, slots"
+        )?;
+        self.tell_slots()?;
+        println!(self.rt; "a log that fills up is compacted into its other half:")?;
+        self.write_all(1, BLOCKS)?;
+        self.tell_compaction()?;
+        println!(self.rt; "what is refused changes nothing:")?;
+        self.tell_refusals()?;
+        println!(self.rt; "version 0 is blank, written or cleared:")?;
+        self.write_block(2, 3, 0, 77)?;
+        self.read_block(2, 3)?;
+        self.clear_site(1)?;
+        self.tell_log()?;
+        self.read_all(1, BLOCKS)
+    }
 }
 
 fn main(rt: HostRuntime) -> io::Result<()> {
@@ -114,10 +112,7 @@ fn main(rt: HostRuntime) -> io::Result<()> {
     let mut b = [0; LOG_LEN];
     let mut c = [0; SLOTS_LEN];
     match join(&mut a, &mut b, &mut c) {
-        Ok(row) => {
-            let mut row = row;
-            tell(&rt, &mut row)
-        }
-        Err(refusal) => show::refused(&rt, refusal),
+        Ok(row) => Teller { rt: &rt, row }.tell(),
+        Err(refusal) => println!(&rt; "refused, {refusal}"),
     }
 }
