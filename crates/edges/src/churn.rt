@@ -32,7 +32,7 @@ fn differences(log: &LogStore, versions: &[u16; BLOCKS]) -> usize {
 }
 
 // Writes each version to the block that it comes to by turns, and tells how often the halves changed and what was read amiss.
-fn churn(rt: &impl Print, mut log: LogStore, writes: u16) -> io::Result<()> {
+fn churn(rt: &impl Print, log: &mut LogStore, writes: u16) -> io::Result<()> {
     let mut versions = [0; BLOCKS];
     let mut compactions: u32 = 0;
     let mut amiss: usize = 0;
@@ -44,7 +44,7 @@ fn churn(rt: &impl Print, mut log: LogStore, writes: u16) -> io::Result<()> {
         if log.half_in_use() != before {
             compactions = compactions.saturating_add(1);
         }
-        amiss = amiss.saturating_add(differences(&log, &versions));
+        amiss = amiss.saturating_add(differences(log, &versions));
     }
     println!(rt; "{writes} writes to a log: {compactions} compactions, {amiss} blocks read amiss")
 }
@@ -52,7 +52,7 @@ fn churn(rt: &impl Print, mut log: LogStore, writes: u16) -> io::Result<()> {
 pub(crate) fn all(rt: &impl Print) -> io::Result<()> {
     let mut memory = [5; MEMORY];
     match LogStore::new(BLOCKS, RECORDS, &mut memory) {
-        Ok(log) => churn(rt, log, 2000),
+        Ok(mut log) => churn(rt, &mut log, 2000),
         Err(_) => println!(rt; "refused"),
     }
 }

@@ -1,6 +1,4 @@
 // What the stores leave in the memory that they were lent: the first five bytes of each slot and of each record.
-ghost use Rattle.std.specs.Prelude.{◌<◌};
-
 use log_store::LogStore;
 use slot_store::SlotStore;
 use std::io;
@@ -16,9 +14,8 @@ fn fill<S: BlockStore + Drop, E: Drop>(made: Result<S, E>, again: u16) {
     }
 }
 
-fn rows(rt: &impl Print, memory: &[u8], step: usize) -> io::Result<()>
-    requires { 0 < step }
-{
+fn rows(rt: &impl Print, memory: &[u8], step: usize) -> io::Result<()> {
+    let step = step.max(1);
     for (at, part) in (0..memory.len()).step_by(step).zip(memory.chunks(step)) {
         if let [a, b, c, d, e, ..] = part {
             println!(rt; "  byte {at}: {a} {b} {c} {d} {e}")?;
