@@ -57,7 +57,7 @@ abbrev pub carried_in : List ℕ → Half → ℕ → ℕ → Carried
 carried_in m half n zero = record { memory = m; count = 0 }
 carried_in m half n (suc k) = carry_in half n (carried_in m half n k) k
 
--- the numbers in force: a log that was made by `new` has them as they stand
+-- the numbers in force: those of a `LogStore` are its numbers as they stand
 abbrev pub room : Log → ℕ
 room l = room_in (length l.memory)
 

@@ -31,7 +31,7 @@ pub struct LogStore<'a> {
 
 impl<'a> LogStore<'a> {
     ghost use Rattle.std.specs.Prelude.{◌≡◌, ◌+◌, ◌*◌, slice_index_or, IfSome};
-    ghost use Rattle.store.specs.Copies.{copy_of};
+    ghost use Rattle.store.specs.Copies.{as_copy};
     ghost use Rattle.store.specs.Stores.{unwritten};
     ghost use Rattle.log_store.specs.Logs.{log_of, first_in, room, block_count, record_count, log_copies, newest_in};
 
@@ -86,7 +86,7 @@ impl<'a> LogStore<'a> {
     #[tactic(auto, using(crate::proofs::Remembering::logged))]
     fn found(&self, index: usize) -> BlockCopy<'_>
         requires { index < block_count (log_of self.now) }
-        ensures { copy_of result ≡ slice_index_or (log_copies (log_of self.now)) index unwritten }
+        ensures { as_copy result ≡ slice_index_or (log_copies (log_of self.now)) index unwritten }
     {
         match self.newest(index) {
             Some(at) => BlockCopy::from_bytes(self.memory, at * RECORD_LEN + 2).unwrap(),

@@ -16,7 +16,7 @@ impl<'a> SlotStore<'a> {
     ghost use Rattle.std.specs.Prelude.{slice_index_or, slice_set, IfOk, MatchResult};
     ghost use Rattle.std.specs.Result.{result_err};
     ghost use Rattle.refusal.specs.Refusals.{rejection};
-    ghost use Rattle.store.specs.Copies.{copy_of};
+    ghost use Rattle.store.specs.Copies.{as_copy};
     ghost use Rattle.store.specs.Stores.{unwritten};
     ghost use Rattle.slot_store.specs.Slots.{slot_refusal, slot_copies, with_slot};
 
@@ -54,7 +54,7 @@ impl<'a> SlotStore<'a> {
     #[tactic(auto, using(crate::proofs::Filled::filled))]
     fn slot(&self, index: usize) -> BlockCopy<'_>
         requires { index < slots_in (length self.now.memory.now) }
-        ensures { copy_of result ≡ slice_index_or (slot_copies self.now.memory.now) index unwritten }
+        ensures { as_copy result ≡ slice_index_or (slot_copies self.now.memory.now) index unwritten }
     {
         BlockCopy::from_bytes(self.memory, index * COPY_LEN).unwrap()
     }
@@ -64,7 +64,7 @@ impl<'a> SlotStore<'a> {
     fn fill(&mut self, index: usize, copy: BlockCopy)
         requires { index < slots_in (length self.old.memory.now) }
         ensures memory { self.new.memory.now ≡ with_slot self.old.memory.now index copy.entry.version copy.entry.bytes.now }
-        ensures copies { slot_copies self.new.memory.now ≡ slice_set (slot_copies self.old.memory.now) index (copy_of copy.entry) }
+        ensures copies { slot_copies self.new.memory.now ≡ slice_set (slot_copies self.old.memory.now) index (as_copy copy.entry) }
         ensures lender { self.new.memory.ghost_name ≡ self.old.memory.ghost_name }
     {
         copy.put(self.memory, index * COPY_LEN);

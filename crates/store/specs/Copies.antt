@@ -7,8 +7,8 @@ use Rattle.store.specs.Bytes.{number, number_at}
 use Rattle.store.specs.Stores.{Copy, kept}
 
 -- the copy that a `BlockCopy` is
-abbrev pub copy_of : BlockCopy → Copy
-copy_of c = record { version = c.version; bytes = c.bytes.now }
+abbrev pub as_copy : BlockCopy → Copy
+as_copy c = record { version = c.version; bytes = c.bytes.now }
 
 -- the copy that lies in bytes from a place on
 abbrev pub copy_in : List ℕ → ℕ → Copy

@@ -1,5 +1,5 @@
 ghost use Rattle.std.specs.Prelude.{◌≡◌, length, Ok, Err, MatchResult};
-ghost use Rattle.store.specs.Copies.{copy_of};
+ghost use Rattle.store.specs.Copies.{as_copy};
 ghost use Rattle.store.specs.Stores.{indexed, fitting, kept};
 
 use crate::block::BLOCK_LEN;
@@ -34,7 +34,7 @@ pub fn check_write(
     version: u16,
     block: &[u8],
 ) -> Result<BlockCopy<'_>, Refusal>
-    ensures { MatchResult result (λ c. fitting count index (length block.now) (kept version block.now) ≡ Ok (copy_of c)) (λ e. fitting count index (length block.now) (kept version block.now) ≡ Err e) }
+    ensures { MatchResult result (λ c. fitting count index (length block.now) (kept version block.now) ≡ Ok (as_copy c)) (λ e. fitting count index (length block.now) (kept version block.now) ≡ Err e) }
 {
     check_index(count, index)?;
     let refusal = Refusal::new(Reason::WrongLength, Layer::Part, block.len());

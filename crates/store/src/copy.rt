@@ -19,12 +19,12 @@ pub struct BlockCopy<'a> {
 impl<'a> BlockCopy<'a> {
     ghost use Rattle.std.specs.Prelude.{◌+◌, ◌<◌, ◌≤◌, MatchOption, ◌≢◌};
     ghost use Rattle.store.specs.Stores.{unwritten, kept};
-    ghost use Rattle.store.specs.Copies.{copy_of, copy_in, with_copy};
+    ghost use Rattle.store.specs.Copies.{as_copy, copy_in, with_copy};
 
     /// The copy of a block that was never written.
     #[tactic(auto, unfolding(crate::specs::Stores::blank))]
     pub fn unwritten() -> BlockCopy<'static>
-        ensures { copy_of result ≡ unwritten }
+        ensures { as_copy result ≡ unwritten }
     {
         BlockCopy {
             version: 0,
@@ -34,7 +34,7 @@ impl<'a> BlockCopy<'a> {
 
     /// What is kept of a block that is written with a version; nothing of bytes that are no block.
     pub fn kept(version: u16, block: &'a [u8]) -> Option<BlockCopy<'a>>
-        ensures { MatchOption result (length block.now ≢ 128) (λ c. (length block.now ≡ 128) × (copy_of c ≡ kept version block.now)) }
+        ensures { MatchOption result (length block.now ≢ 128) (λ c. (length block.now ≡ 128) × (as_copy c ≡ kept version block.now)) }
     {
         if block.len() != BLOCK_LEN {
             return None;
@@ -47,7 +47,7 @@ impl<'a> BlockCopy<'a> {
 
     /// The copy that lies in bytes from a place on, if they reach so far.
     pub fn from_bytes(bytes: &'a [u8], at: usize) -> Option<BlockCopy<'a>>
-        ensures { MatchOption result (length bytes.now < at + 130) (λ c. (at + 130 ≤ length bytes.now) × (copy_of c ≡ copy_in bytes.now at)) }
+        ensures { MatchOption result (length bytes.now < at + 130) (λ c. (at + 130 ≤ length bytes.now) × (as_copy c ≡ copy_in bytes.now at)) }
     {
         let block = bytes.get(at.checked_add(2)?..at.checked_add(COPY_LEN)?)?;
         BlockCopy::kept(number_at(bytes, at), block)
@@ -56,7 +56,7 @@ impl<'a> BlockCopy<'a> {
     /// Lays the copy over bytes from a place on. What would lie past the end is left out.
     #[tactic(auto, using(crate::proofs::Writes::sets_saturated))]
     pub fn put(self, memory: &mut [u8], at: usize)
-        ensures { memory.new ≡ with_copy memory.old at (copy_of self.entry) }
+        ensures { memory.new ≡ with_copy memory.old at (as_copy self.entry) }
     {
         put_bytes(memory, at, &self.version.to_be_bytes());
         put_bytes(memory, at.saturating_add(2), self.bytes);

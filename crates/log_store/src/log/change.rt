@@ -1,5 +1,5 @@
 ghost use Rattle.std.specs.Prelude.{◌≡◌, ◌<◌, ◌≤◌, slice_set};
-ghost use Rattle.store.specs.Copies.{copy_of};
+ghost use Rattle.store.specs.Copies.{as_copy};
 ghost use Rattle.log_store.specs.Logs.{log_of, room, block_count, record_count, log_copies, carrying, carry_block, compacted, roomy, appended};
 
 use crate::log::{LogStore, RECORD_LEN};
@@ -70,7 +70,7 @@ impl<'a> LogStore<'a> {
     pub(crate) fn append(&mut self, index: usize, copy: BlockCopy)
         requires { index < block_count (log_of self.old) }
         ensures log { log_of self.new ≡ appended (roomy (log_of self.old)) index copy.entry.version copy.entry.bytes.now }
-        ensures copies { log_copies (log_of self.new) ≡ slice_set (log_copies (log_of self.old)) index (copy_of copy.entry) }
+        ensures copies { log_copies (log_of self.new) ≡ slice_set (log_copies (log_of self.old)) index (as_copy copy.entry) }
         ensures lender { self.new.memory.ghost_name ≡ self.old.memory.ghost_name }
     {
         self.make_room();
