@@ -66,7 +66,7 @@ impl<'a> LogStore<'a> {
         self.used
     }
 
-    // The newest record of a block.
+    // The newest record of a block. By a `for`, since the check does not follow `find` from the last number down.
     #[tactic(auto, using(crate::proofs::Remembering::logged))]
     fn newest(&self, index: usize) -> Option<usize>
         ensures found { result ≡ newest_in (log_of self.now).memory (log_of self.now).half (record_count (log_of self.now)) index }

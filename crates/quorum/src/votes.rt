@@ -16,7 +16,7 @@ pub const MAX_VOTES: u8 = 15;
 #[derive(Clone, Copy, PartialEq, Eq, Hash, Debug)]
 pub struct WeightedVotes {
     sites: usize,
-    // those from `sites` on do not count
+    // Those from `sites` on do not count. An array, so that a rule is `Copy` and making one needs no memory.
     votes: [u8; MAX_SITES],
     read_above: usize,
     write_above: usize,

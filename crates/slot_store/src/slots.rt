@@ -115,6 +115,7 @@ impl<'a> BlockStore for SlotStore<'a> {
         ensures memory { self.new.memory.now ≡ slots_cleared self.old.memory.now }
         ensures lender { self.new.memory.ghost_name ≡ self.old.memory.ghost_name }
     {
+        // By their numbers: of chunks that are lent in turn a proof knows no byte.
         for index in 0..self.block_count() {
             self.fill(index, BlockCopy::unwritten());
         }

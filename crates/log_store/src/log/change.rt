@@ -26,7 +26,8 @@ impl<'a> LogStore<'a> {
         }
     }
 
-    // Copies the newest record of each block to the start of the other half, in rising index, and takes that half into use.
+    // Copies the newest record of each block to the start of the other half, in rising index, and takes that half into use. By a
+    // `for`, since each step changes the log.
     #[tactic(auto, using(crate::proofs::Remembering::logged))]
     fn compact(&mut self)
         ensures log { log_of self.new ≡ compacted (log_of self.old) }
