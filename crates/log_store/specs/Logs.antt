@@ -1,5 +1,5 @@
 -- A log over memory in two halves, and what writing and clearing leave of it.
-use Rattle.std.specs.Prelude.{ℕ, zero, suc, ◌+◌, ◌-◌, ◌*◌, min, cond, ◌||◌, List, map, length, Some, None, Option, ◌==◌, codes, nat_le, nat_lt}
+use Rattle.std.specs.Prelude.{ℕ, zero, suc, ◌+◌, ◌-◌, ◌*◌, ◌/◌, min, cond, ◌||◌, List, map, length, Some, None, Option, ◌==◌, codes, nat_le, nat_lt}
 use Rattle.std.specs.List.{range_with_len}
 use Rattle.refusal.specs.declared.reason.Reason.TheVariants.{BadSizes, WrongLength}
 use Rattle.refusal.specs.declared.refusal.Refusal.{Refusal}
@@ -8,7 +8,6 @@ use Rattle.log_store.specs.declared.half.Half.{Half}
 use Rattle.log_store.specs.declared.half.Half.TheVariants.{First, Second}
 use Rattle.log_store.specs.declared.log.LogStore.{LogStore}
 use Rattle.log_store.specs.Records.{Carried, carry, copy_found, newest, with_record}
-pub use Rattle.log_store.specs.Records.{room_in}
 
 -- why n bytes are no log of some blocks with so many records in each half
 abbrev pub log_refusal : ℕ → ℕ → ℕ → Option Refusal
@@ -29,6 +28,10 @@ log_of s = record { memory = s.memory.now; blocks = s.blocks; half = s.half; use
 -- the first half in use, with no record
 abbrev pub started : ℕ → List ℕ → Log
 started blocks m = record { memory = m; blocks = blocks; half = First; used = 0 }
+
+-- how many records each half of n bytes has room for
+abbrev pub room_in : ℕ → ℕ
+room_in n = min (n / 264) 512
 
 -- the number of a half's first record
 abbrev pub first_in : List ℕ → Half → ℕ
@@ -57,7 +60,7 @@ abbrev pub carried_in : List ℕ → Half → ℕ → ℕ → Carried
 carried_in m half n zero = record { memory = m; count = 0 }
 carried_in m half n (suc k) = carry_in half n (carried_in m half n k) k
 
--- the numbers in force: those of a `LogStore` are its numbers as they stand
+-- the numbers in force: a log that was made by `new` has them as they stand
 abbrev pub room : Log → ℕ
 room l = room_in (length l.memory)
 

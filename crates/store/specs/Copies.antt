@@ -11,8 +11,8 @@ abbrev pub as_copy : BlockCopy → Copy
 as_copy c = record { version = c.version; bytes = c.bytes.now }
 
 -- the copy that lies in bytes from a place on
-abbrev pub copy_in : List ℕ → ℕ → Copy
-copy_in m at = kept (number_at m at) (between (at + 2) (at + 130) m)
+abbrev pub copy_from : List ℕ → ℕ → Copy
+copy_from m at = kept (number_at m at) (between (at + 2) (at + 130) m)
 
 -- bytes with a copy laid over them from a place on
 abbrev pub with_copy : List ℕ → ℕ → Copy → List ℕ

@@ -6,11 +6,11 @@ ghost use Rattle.store.specs.Bytes.{number_at};
 pub fn number_at(bytes: &[u8], at: usize) -> u16
     ensures { result ≡ number_at bytes.now at }
 {
-    match bytes.get(at..) {
-        Some([high, low, ..]) => u16::from_be_bytes([*high, *low]),
-        Some([high]) => u16::from_be_bytes([*high, 0]),
-        _ => 0,
-    }
+    u16::from_be_bytes(match bytes.get(at..) {
+        Some([high, low, ..]) => [*high, *low],
+        Some([high]) => [*high, 0],
+        _ => [0, 0],
+    })
 }
 
 /// Lays bytes from a place on. Those that would lie past the end are left out.

@@ -19,7 +19,7 @@ pub struct BlockCopy<'a> {
 impl<'a> BlockCopy<'a> {
     ghost use Rattle.std.specs.Prelude.{◌+◌, ◌<◌, ◌≤◌, MatchOption, ◌≢◌};
     ghost use Rattle.store.specs.Stores.{unwritten, kept};
-    ghost use Rattle.store.specs.Copies.{as_copy, copy_in, with_copy};
+    ghost use Rattle.store.specs.Copies.{as_copy, copy_from, with_copy};
 
     /// The copy of a block that was never written.
     #[tactic(auto, unfolding(crate::specs::Stores::blank))]
@@ -47,7 +47,7 @@ impl<'a> BlockCopy<'a> {
 
     /// The copy that lies in bytes from a place on, if they reach so far.
     pub fn from_bytes(bytes: &'a [u8], at: usize) -> Option<BlockCopy<'a>>
-        ensures { MatchOption result (length bytes.now < at + 130) (λ c. (at + 130 ≤ length bytes.now) × (as_copy c ≡ copy_in bytes.now at)) }
+        ensures { MatchOption result (length bytes.now < at + 130) (λ c. (at + 130 ≤ length bytes.now) × (as_copy c ≡ copy_from bytes.now at)) }
     {
         let block = bytes.get(at.checked_add(2)?..at.checked_add(COPY_LEN)?)?;
         BlockCopy::kept(number_at(bytes, at), block)

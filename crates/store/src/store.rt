@@ -1,16 +1,15 @@
-ghost use Rattle.std.specs.Prelude.{◌≡◌, ◌<◌, length};
+ghost use Rattle.std.specs.Prelude.{◌≡◌, length};
 ghost use Rattle.store.specs.Stores.{Store, version_answer, read_answer, read_buffer, write_answer, written, cleared};
 
 use refusal::Refusal;
 
-/// Numbered blocks, each with a version. There is at least one, and every call leaves their number as it is.
+/// Numbered blocks, each with a version. There is at least one: whoever makes a store ensures it, and every call leaves their number as it is.
 pub trait BlockStore {
     ghost holds: { Self → Store };
 
     /// How many blocks there are.
     fn block_count(&self) -> usize
-        ensures count { result ≡ length (holds self.now).copies }
-        ensures some { 0 < result };
+        ensures { result ≡ length (holds self.now).copies };
 
     /// The version of a block; 0 means that it is blank.
     fn version(&self, index: usize) -> Result<u16, Refusal>

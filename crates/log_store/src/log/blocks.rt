@@ -1,4 +1,4 @@
-ghost use Rattle.std.specs.Prelude.{◌≡◌, ◌<◌, length};
+ghost use Rattle.std.specs.Prelude.{◌≡◌, length};
 ghost use Rattle.store.specs.Stores.{write_answer, written, cleared};
 ghost use Rattle.log_store.specs.Logs.{log_of, block_count, log_copies, log_written, log_cleared};
 ghost use Rattle.log_store.specs.Meaning.{store_of_log};
@@ -6,18 +6,18 @@ ghost use Rattle.log_store.specs.Meaning.{store_of_log};
 use crate::half::Half;
 use crate::log::LogStore;
 use refusal::Refusal;
-use store::{BlockStore, check_block, check_index, check_write};
+use store::{BlockStore, MAX_BLOCKS, check_block, check_index, check_write};
 
-impl<'a> BlockStore for LogStore<'a> {
+impl BlockStore for LogStore<'_> {
     ghost holds = { λ s. store_of_log (log_of s) };
 
     #[tactic(auto, using(crate::proofs::Remembering::logged))]
     fn block_count(&self) -> usize
         ensures copies { result ≡ length (log_copies (log_of self.now)) }
         ensures blocks { result ≡ block_count (log_of self.now) }
-        ensures some { 0 < result }
     {
-        self.blocks
+        let most = self.room().saturating_sub(1).min(MAX_BLOCKS);
+        self.blocks.min(most)
     }
 
     fn version(&self, index: usize) -> Result<u16, Refusal> {

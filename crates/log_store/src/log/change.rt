@@ -5,10 +5,10 @@ ghost use Rattle.log_store.specs.Logs.{log_of, room, block_count, record_count, 
 use crate::log::{LogStore, RECORD_LEN};
 use store::{BlockCopy, BlockStore, put_bytes};
 
-impl<'a> LogStore<'a> {
+impl LogStore<'_> {
     // Copies a block's newest record, if it has one, behind those that were carried into the other half so far, and answers how many they are now.
     #[tactic(auto, using(crate::proofs::Remembering::logged))]
-    fn carry(&mut self, count: usize, index: usize) -> usize
+    fn carry_block(&mut self, count: usize, index: usize) -> usize
         requires { count < room (log_of self.old) }
         ensures log { log_of self.new ≡ carrying (log_of self.old) (carry_block (log_of self.old) count index) }
         ensures count { result ≡ (carry_block (log_of self.old) count index).count }
@@ -30,12 +30,13 @@ impl<'a> LogStore<'a> {
     // `for`, since each step changes the log.
     #[tactic(auto, using(crate::proofs::Remembering::logged))]
     fn compact(&mut self)
+        requires { 1 < room (log_of self.old) }
         ensures log { log_of self.new ≡ compacted (log_of self.old) }
         ensures lender { self.new.memory.ghost_name ≡ self.old.memory.ghost_name }
     {
         let mut count = 0;
         for index in 0..self.block_count() {
-            count = self.carry(count, index);
+            count = self.carry_block(count, index);
         }
         self.half = self.half.other();
         self.used = count;
@@ -43,6 +44,7 @@ impl<'a> LogStore<'a> {
 
     // Makes room for one record more: a full half is compacted into the other first.
     fn make_room(&mut self)
+        requires { 1 < room (log_of self.old) }
         ensures log { log_of self.new ≡ roomy (log_of self.old) }
         ensures lender { self.new.memory.ghost_name ≡ self.old.memory.ghost_name }
     {
@@ -53,7 +55,7 @@ impl<'a> LogStore<'a> {
 
     // Adds a record behind the last.
     #[tactic(auto, using(crate::proofs::Remembering::logged))]
-    fn add(&mut self, index: usize, copy: BlockCopy)
+    fn push(&mut self, index: usize, copy: BlockCopy)
         requires index { index < 256 }
         requires room { record_count (log_of self.old) < room (log_of self.old) }
         ensures log { log_of self.new ≡ appended (log_of self.old) index copy.entry.version copy.entry.bytes.now }
@@ -75,6 +77,6 @@ impl<'a> LogStore<'a> {
         ensures lender { self.new.memory.ghost_name ≡ self.old.memory.ghost_name }
     {
         self.make_room();
-        self.add(index, copy);
+        self.push(index, copy);
     }
 }

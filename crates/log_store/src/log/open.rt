@@ -14,7 +14,7 @@ impl<'a> LogStore<'a> {
     pub fn check(blocks: usize, records: usize, bytes: usize) -> Result<(), Refusal>
         ensures { result_err result ≡ log_refusal blocks records bytes }
     {
-        if blocks == 0 || blocks > MAX_BLOCKS || records <= blocks || records > MAX_RECORDS {
+        if !(1..=MAX_BLOCKS).contains(&blocks) || records <= blocks || records > MAX_RECORDS {
             return Err(Refusal::new(Reason::BadSizes, Layer::Part, 0));
         }
         if bytes != 2 * records * RECORD_LEN {

@@ -9,6 +9,6 @@ returns-clause-copies c =
     let l : Log = log_of c.args.self.now in
     let i = c.args.index in
     let k = c.args.copy in
-    let e : log_of c.add.new.self ≡ appended (roomy l) i k.version k.bytes.now =
-    c.add.ensures.log ∙ ap (λ t. appended t i k.version k.bytes.now) c.make_room.ensures.log in
+    let e : log_of c.push.new.self ≡ appended (roomy l) i k.version k.bytes.now =
+    c.push.ensures.log ∙ ap (λ t. appended t i k.version k.bytes.now) c.make_room.ensures.log in
     ap log_copies e ∙ copy_appended l i k.version k.bytes.now c.requires (omega arith) k.size k.none

@@ -10,7 +10,7 @@ loop-index-preserved c =
     let i = c.loop-index.index in
     let d : carry_block (log_of c.loop-index.self) c.loop-index.count i ≡ carried_in s.memory s.half (record_count s) (i + 1) =
     carried_step s (log_of c.loop-index.self) i c.loop-index.count c.loop-index.invariant.0 c.loop-index.invariant.1 in (
-      c.carry-count.ensures.log ∙ (ap (λ t. carrying t (carry_block (log_of c.loop-index.self) c.loop-index.count i)) c.loop-index.invariant.0 ∙ ap (carrying s) d),
-      c.carry-count.ensures.count ∙ ap (λ t. t.count) d,
-      c.carry-count.ensures.lender ∙ c.loop-index.invariant.2,
+      c.carry_block-count.ensures.log ∙ (ap (λ t. carrying t (carry_block (log_of c.loop-index.self) c.loop-index.count i)) c.loop-index.invariant.0 ∙ ap (carrying s) d),
+      c.carry_block-count.ensures.count ∙ ap (λ t. t.count) d,
+      c.carry_block-count.ensures.lender ∙ c.loop-index.invariant.2,
     )
