@@ -15,7 +15,7 @@ use std::{fmt, io};
 use store::BlockStore;
 
 // Tries every case at a store that was made.
-fn store<S: BlockStore + Drop, E: Drop>(
+fn try_cases<S: BlockStore + Drop, E: Drop>(
     rt: &impl Print,
     made: Result<S, E>,
     title: impl fmt::Display + Drop,
@@ -31,12 +31,12 @@ fn store<S: BlockStore + Drop, E: Drop>(
 
 fn slots(rt: &impl Print, blocks: usize, memory: &mut [u8]) -> io::Result<()> {
     let title = format_args!("slots, {blocks} blocks");
-    store(rt, SlotStore::new(blocks, memory), title)
+    try_cases(rt, SlotStore::new(blocks, memory), title)
 }
 
 fn log(rt: &impl Print, blocks: usize, records: usize, memory: &mut [u8]) -> io::Result<()> {
     let title = format_args!("log, {blocks} blocks, {records} records in each half");
-    store(rt, LogStore::new(blocks, records, memory), title)
+    try_cases(rt, LogStore::new(blocks, records, memory), title)
 }
 
 // Stores of the smallest and of the largest sizes, over memory that held something else.

@@ -8,7 +8,7 @@ use Rattle.log_store.proofs.Carrying.{carried_size}
 pub newest_more : (m : List ℕ) (from n i : ℕ) → newest m from (n + 1) i ≡ cond (index_at m (from + n) == i) (Some (from + n)) (newest m from n i)
 newest_more m from n i = ap (λ k. newest m from k i) (add-one n)
 
-pub carried_more : (m : List ℕ) (h : Half) (n k : ℕ) → carry_in h n (carried_in m h n k) k ≡ carried_in m h n (k + 1)
+carried_more : (m : List ℕ) (h : Half) (n k : ℕ) → carry_in h n (carried_in m h n k) k ≡ carried_in m h n (k + 1)
 carried_more m h n k = ap (carried_in m h n) (sym (add-one k))
 
 -- one block more is carried of a log of which the first k blocks were

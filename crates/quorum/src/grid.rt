@@ -45,22 +45,9 @@ impl GridQuorum {
     {
         (0..self.sites).all(|site| site % self.columns != column || set.contains(site))
     }
-
-    // Whether every column has a member.
-    fn every_column(&self, set: SiteSet) -> bool
-        ensures { result ≡ grid_reads self.now.sites self.now.columns (members set) }
-    {
-        (0..self.columns).all(|column| self.column_has(set, column))
-    }
-
-    // Whether some column is whole.
-    fn some_column(&self, set: SiteSet) -> bool
-        ensures { result ≡ any self.now.columns (column_whole self.now.sites self.now.columns (members set)) }
-    {
-        (0..self.columns).any(|column| self.column_whole(set, column))
-    }
 }
 
+#[tactic(auto, using(sites::proofs::Ranges::range_tests))]
 impl QuorumRule for GridQuorum {
     ghost meaning = { rule_of_grid };
 
@@ -72,10 +59,10 @@ impl QuorumRule for GridQuorum {
     }
 
     fn may_read(&self, set: SiteSet) -> bool {
-        self.every_column(set)
+        (0..self.columns).all(|column| self.column_has(set, column))
     }
 
     fn may_write(&self, set: SiteSet) -> bool {
-        self.may_read(set) && self.some_column(set)
+        self.may_read(set) && (0..self.columns).any(|column| self.column_whole(set, column))
     }
 }

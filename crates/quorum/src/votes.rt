@@ -22,16 +22,6 @@ pub struct WeightedVotes {
     write_above: usize,
 }
 
-// The votes of all sites.
-#[tactic(auto, using(crate::proofs::Listed::all_votes_bounded))]
-fn all_votes(votes: &[u8]) -> usize
-    requires { length votes.now ≤ max_sites }
-    ensures value { result ≡ all_votes votes.now }
-    ensures most { result ≤ 255 * max_sites }
-{
-    votes.iter().map(|count| usize::from(*count)).sum()
-}
-
 // An array that begins with the votes.
 fn padded(votes: &[u8]) -> [u8; MAX_SITES]
     requires { length votes.now ≤ max_sites }
@@ -74,6 +64,16 @@ impl WeightedVotes {
         &self.votes[..self.sites.min(MAX_SITES)]
     }
 
+    // The votes of all sites.
+    #[tactic(auto, using(crate::proofs::Listed::all_votes_bounded))]
+    fn all(&self) -> usize
+        ensures value { result ≡ all_votes (votes_in self.now) }
+        ensures most { result ≤ 255 * max_sites }
+    {
+        let votes = self.votes();
+        votes.iter().map(|&count| usize::from(count)).sum()
+    }
+
     // The votes of a set.
     fn inside(&self, set: SiteSet) -> usize
         ensures value { result ≡ sum_by (λ (p : ℕ × ℕ). p.1) (filter (λ (p : ℕ × ℕ). members set p.0) (enumerate_from 0 (votes_in self.now))) }
@@ -92,7 +92,7 @@ impl WeightedVotes {
     fn outside(&self, set: SiteSet) -> usize
         ensures { result ≡ votes_of (votes_in self.now) (others (members set)) }
     {
-        all_votes(self.votes()) - self.inside(set)
+        self.all() - self.inside(set)
     }
 
     // Whether no site has too many votes.
@@ -100,14 +100,14 @@ impl WeightedVotes {
     fn is_small(&self) -> bool
         ensures { result ≡ small_votes (votes_in self.now) }
     {
-        self.votes().iter().all(|count| *count <= MAX_VOTES)
+        self.votes().iter().all(|&count| count <= MAX_VOTES)
     }
 
     // Whether the thresholds can be exceeded, and sets that exceed them share a site.
     fn is_fair(&self) -> bool
         ensures { result ≡ fair (all_votes (votes_in self.now)) self.now.read_above self.now.write_above }
     {
-        let all = all_votes(self.votes());
+        let all = self.all();
         self.read_above < all
             && self.write_above < all
             && all <= self.read_above + self.write_above + 1

@@ -6,7 +6,7 @@ const NUMBERS: [usize; 7] = [0, 1, 6, 7, 8, 9, usize::MAX];
 
 const BITS: [SiteBits; 5] = [0, 1, 128, 170, 255];
 
-fn tell_set(rt: &impl Print, bits: SiteBits) -> io::Result<()> {
+fn tell_bits(rt: &impl Print, bits: SiteBits) -> io::Result<()> {
     let set = SiteSet::from_bits(bits);
     let size = set.len();
     println!(rt; "set {bits}: {size} members")?;
@@ -33,7 +33,7 @@ pub(crate) fn all(rt: &impl Print) -> io::Result<()> {
         println!(rt; "sites below {count}: {bits}")?;
     }
     for bits in BITS {
-        tell_set(rt, bits)?;
+        tell_bits(rt, bits)?;
     }
     Ok(())
 }

@@ -102,12 +102,12 @@ bits_count w b h = ap ones (sym (mod-eq_of_lt h)) ∙ ones_counted b w
 lost : (x y : Bool) → implies x y ≡ false → (x && y) ≡ x → ⊥
 lost x y e k = grind arith
 
-kept : (x y : ℕ) → x < 2 → y < 2 → implies (eqb x 1) (eqb y 1) ≡ true → min x y ≡ x
-kept x y p q e = grind (arith, nat_tests)
+least_first : (x y : ℕ) → x < 2 → y < 2 → implies (eqb x 1) (eqb y 1) ≡ true → min x y ≡ x
+least_first x y p q e = grind (arith, nat_tests)
 
 pub bits_subset : (w a b : ℕ) → a < 2 ^ w → b < 2 ^ w → eqb (bit_and a b) a ≡ every w (λ i. implies (bit_at a i) (bit_at b i))
 bits_subset w a b p q = elim (every_tells w (λ i. implies (bit_at a i) (bit_at b i))) [
   | inl f ↦ ne_eqb (bit_and a b) a (λ e. lost (bit_at a f.1) (bit_at b f.1) f.3 (sym (and_bit a b f.1) ∙ ap (λ x. bit_at x f.1) e)) ∙ sym f.0
   | inr t ↦ eq-eqb (bit_and a b) a (same_from_bits_below w (bit_and a b) a (and_lt w a b p q) p (λ i l.
-      bit_at_and a b i ∙ kept (bit a i) (bit b i) (bit_at-lt a i) (bit_at-lt b i) (t.1 i l))) ∙ sym t.0
+      bit_at_and a b i ∙ least_first (bit a i) (bit b i) (bit_at-lt a i) (bit_at-lt b i) (t.1 i l))) ∙ sym t.0
 ]

@@ -25,7 +25,7 @@ slot_like i {m} {m'} s =
     ap (λ v. kept v (between (i * 130 + 2) (i * 130 + 130) m)) (alike_first s (omega arith)) ∙
     ap (kept (number_at m' (i * 130))) (alike_between s 2 130 (omega arith))
 
-pub length-with_slot : (m : List ℕ) (i v : ℕ) (bytes : List ℕ) → length (with_slot m i v bytes) ≡ length m
+length-with_slot : (m : List ℕ) (i v : ℕ) (bytes : List ℕ) → length (with_slot m i v bytes) ≡ length m
 length-with_slot m i v bytes = length-sets (sets m (i * 130) (number v)) (i * 130 + 2) bytes ∙ length-sets m (i * 130) (number v)
 
 module _ (m : List ℕ) (i v : ℕ) (bytes : List ℕ) (h : i < slots_in (length m)) (f : v < 2 ^ 16) (k : length bytes ≡ 128) where

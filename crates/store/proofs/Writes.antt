@@ -22,7 +22,7 @@ sets_past [] m at h = refl
 sets_past (b ∷ bs) m at h = sets_past bs (set m at b) (suc at) (omega (arith, length-set m at b)) ∙ set_past m at b h
 
 -- the first n bytes alone are laid where the others lie past the end or are none
-pub sets_fitting : (n : ℕ) (bs m : List ℕ) (at : ℕ) → (length m ≤ at + n) ⊎ (length bs ≤ n) → sets m at (take n bs) ≡ sets m at bs
+sets_fitting : (n : ℕ) (bs m : List ℕ) (at : ℕ) → (length m ≤ at + n) ⊎ (length bs ≤ n) → sets m at (take n bs) ≡ sets m at bs
 sets_fitting n [] m at o = ap (sets m at) (take_all n [] (omega arith))
 sets_fitting zero (b ∷ bs) m at o = sym (sets_past (b ∷ bs) m at (⊎_elim (λ h. omega arith) (λ h. omega arith) o))
 sets_fitting (suc n) (b ∷ bs) m at o =

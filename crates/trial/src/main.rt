@@ -11,6 +11,7 @@ use refusal::Refusal;
 use replicas::{Joined, Replicas, Single};
 use slot_store::SlotStore;
 use std::io;
+use store::COPY_LEN;
 use teller::Teller;
 
 // How many blocks each store has, and how many records each half of the log has room for.
@@ -19,7 +20,7 @@ const BLOCKS: usize = 4;
 const RECORDS: usize = 6;
 
 // The bytes that this takes: 130 for each slot, and 132 for each record of both halves.
-const SLOTS_LEN: usize = 130 * BLOCKS;
+const SLOTS_LEN: usize = COPY_LEN * BLOCKS;
 
 const LOG_LEN: usize = 2 * 132 * RECORDS;
 

@@ -25,7 +25,7 @@ impl<P: Print, R: Replicas> Teller<'_, P, R> {
         )
     }
 
-    // Writes the first blocks of a site.
+    // Writes the first blocks of a site, at most 236, which is as many as there are bytes from 20 on.
     pub(crate) fn write_all(&mut self, site: usize, blocks: usize) -> io::Result<()> {
         for (index, fill) in (0..blocks).zip(20..=u8::MAX) {
             self.write_block(site, index, 1, fill)?;
