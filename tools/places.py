@@ -96,7 +96,7 @@ def main():
          sorted(f"{c}: {a}, {b}: {' '.join(sorted(w))}" for (c, a, b), w in together.items() if len(w) > 3))
 
     show("6 arrays", grep(files, r"\[\w+; \w+\]"))
-    show("7 closures, dyn, function pointers", grep(files, r"\bdyn\b|impl Fn|: fn\(|\|\w[\w, ]*\| "))
+    show("7 closures, dyn, function pointers", grep(files, r"\bdyn\b|impl Fn|: fn\(|[(]\|[^|]+\||, \|[^|]+\|"))
     show("7 switches on a step (three arms or more that call)", grep(files, r"=> self\.\w+\.\w+\("))
 
     proofs = {n: t for n, t in every.items() if "/proofs/" in n}

@@ -27,7 +27,7 @@ pub struct LogStore<'a> {
     memory: &'a mut [u8],
 }
 
-impl LogStore<'_> {
+impl<'a> LogStore<'a> {
     // How many records each half has room for.
     fn room(&self) -> usize
         ensures { result ≡ room (log_of self.now) }

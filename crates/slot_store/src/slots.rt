@@ -67,7 +67,7 @@ impl<'a> SlotStore<'a> {
     }
 }
 
-impl BlockStore for SlotStore<'_> {
+impl<'a> BlockStore for SlotStore<'a> {
     ghost holds = { λ s. store_of_slots s.memory.now };
 
     #[tactic(auto, using(crate::proofs::Filled::filled))]

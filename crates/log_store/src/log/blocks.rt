@@ -8,7 +8,7 @@ use crate::log::LogStore;
 use refusal::Refusal;
 use store::{BlockStore, MAX_BLOCKS, check_block, check_index, check_write};
 
-impl BlockStore for LogStore<'_> {
+impl<'a> BlockStore for LogStore<'a> {
     ghost holds = { λ s. store_of_log (log_of s) };
 
     #[tactic(auto, using(crate::proofs::Remembering::logged))]

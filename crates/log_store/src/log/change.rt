@@ -5,7 +5,7 @@ ghost use Rattle.log_store.specs.Logs.{log_of, room, block_count, record_count, 
 use crate::log::{LogStore, RECORD_LEN};
 use store::{BlockCopy, BlockStore, put_bytes};
 
-impl LogStore<'_> {
+impl<'a> LogStore<'a> {
     // Copies a block's newest record, if it has one, behind those that were carried into the other half so far, and answers how many they are now.
     #[tactic(auto, using(crate::proofs::Remembering::logged))]
     fn carry_block(&mut self, count: usize, index: usize) -> usize
