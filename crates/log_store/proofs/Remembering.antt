@@ -6,9 +6,9 @@ use Rattle.store.proofs.Changes.{left_through, reads_last}
 use Rattle.log_store.specs.Histories.{log_after, LogForgetsNothing}
 use Rattle.log_store.specs.Logs.{Log, started, block_count, log_copies, roomy, appended, log_written, log_cleared}
 use Rattle.log_store.specs.Meaning.{length-log, get_or-log, half_fits}
-use Rattle.log_store.proofs.Writing.{block_written, roomy_free, log_copies-started, sizes_fit}
+use Rattle.log_store.proofs.Writing.{block_written, copy_appended, roomy_free, log_copies-started, sizes_fit}
 use Rattle.log_store.proofs.Laid.{copied_is}
-use Rattle.log_store.proofs.Newest.{newest_more}
+use Rattle.log_store.proofs.Newest.{newest_more, carried_step}
 use Rattle.log_store.proofs.Carrying.{carried_size, carried_few}
 
 log_copies-log_written : (l : Log) (i v : ℕ) (block : List ℕ) → v < 2 ^ 16 → log_copies (log_written l i v block) ≡ written (log_copies l) i v block
@@ -34,4 +34,4 @@ forgets_nothing blocks records m e history f i h =
     subst (λ t. Reads t i (last_written history i)) s (reads_last blocks history i h)
 
 -- what the functions of a log need of all this
-pub ruleset logged = (newest_more, copied_is, length-log, get_or-log, half_fits, sizes_fit, log_copies-started, log_copies-log_cleared, roomy_free, carried_size, carried_few)
+pub ruleset logged = (carried_step, copy_appended, newest_more, copied_is, length-log, get_or-log, half_fits, sizes_fit, log_copies-started, log_copies-log_cleared, roomy_free, carried_size, carried_few)

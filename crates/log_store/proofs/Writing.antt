@@ -85,10 +85,11 @@ module _ (l : Log) (i v : ℕ) (bytes : List ℕ) (h : i < block_count l) (f : v
       (s.copy j j' ∙ (sym (get_or-log l j j') ∙ sym (get_or-set_other (log_copies l) i j (kept v bytes) unwritten ne))))
       (cases_eq j i)))
 
--- a copy that is blank where its version is 0 is kept as it is
-pub copy_appended : (l : Log) (i v : ℕ) (bytes : List ℕ) → i < block_count l → v < 2 ^ 16 → length bytes ≡ 128 → (v ≡ 0 → bytes ≡ blank) →
-    log_copies (appended (roomy l) i v bytes) ≡ set (log_copies l) i (record { version = v; bytes = bytes })
-copy_appended l i v bytes h f k b = log_copies-appended l i v bytes h f k ∙ ap (set (log_copies l) i) (kept_whole v bytes b)
+-- a copy that is blank where its version is 0 is kept as it is; an equation names the log after, so that `grind` finds the one before
+pub copy_appended : (l l' : Log) (i v : ℕ) (bytes : List ℕ) → l' ≡ appended (roomy l) i v bytes →
+    i < block_count l → v < 2 ^ 16 → length bytes ≡ 128 → (v ≡ 0 → bytes ≡ blank) →
+    log_copies l' ≡ set (log_copies l) i (record { version = v; bytes = bytes })
+copy_appended l l' i v bytes e h f k b = rw e (log_copies-appended l i v bytes h f k ∙ ap (set (log_copies l) i) (kept_whole v bytes b))
 
 -- there is room now
 pub roomy_free : (l : Log) → 1 < room l → record_count (roomy l) < room (roomy l)

@@ -29,9 +29,11 @@ pub sites_below : (n : ℕ) → n < max_sites → sites_in (1 * 2 ^ n % 2 ^ max_
 unfolding sites_in
 sites_below n l = ap (λ x. sites_in (x - 1)) (one_shl n max_sites l) ∙ within_same (bit_at (2 ^ n - 1)) (λ i. ltb i n) (λ i _. low_bit n i)
 
-pub sites_all : (n : ℕ) → max_sites ≤ n → sites_in (2 ^ max_sites - 1) ≡ within (λ i. ltb i n)
+-- an equation names the bits, so that `grind` finds the number
+pub sites_all : (b n : ℕ) → b ≡ 2 ^ max_sites - 1 → max_sites ≤ n → sites_in b ≡ within (λ i. ltb i n)
 unfolding sites_in
-sites_all n h =
+sites_all b n e h =
+    ap sites_in e ∙
     within_same (bit_at (2 ^ max_sites - 1)) (λ i. ltb i n) (λ i l. low_bit max_sites i ∙ lt-ltb i max_sites l ∙ sym (lt-ltb i n (omega arith)))
 
 -- one bit
@@ -110,4 +112,4 @@ module _ (b : ℕ) (h : b < 2 ^ max_sites) where
 
 -- what the methods of `SiteSet` leave to be shown
 pub ruleset site_bits =
-    (sites_below, site_bit, site_past, sites_with, with_past, sites_without, without_past, sites_either, sites_value, sites_size, sites_subset)
+    (sites_below, sites_all, site_bit, site_past, sites_with, with_past, sites_without, without_past, sites_either, sites_value, sites_size, sites_subset)
