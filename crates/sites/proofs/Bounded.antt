@@ -1,6 +1,7 @@
 -- Tests, counts and sums over the numbers below a bound.
-use Rattle.std.proofs.Common.{◌≡◌, ℕ, zero, suc, ◌+◌, ◌<◌, ◌≤◌, Bool, true, false, T, ◌⊎◌, List, [], length, take, sym, refl, ap, ◌∙◌, ap₂, inl, inr, add-one, arith}
-use Rattle.std.proofs.lemmas.Bool.{cases_eq, cases_Bool, and_from, and_left, and_right, or_from, or_left, or_right}
+use Rattle.std.proofs.Common.{◌≡◌, ℕ, zero, suc, ◌+◌, ◌<◌, ◌≤◌, ◌&&◌, ◌||◌, Bool, true, false, T, ◌⊎◌, List, [], length, take, sym, refl, ap, ◌∙◌, ap₂, inl, inr, add-one, arith}
+use Rattle.std.proofs.Math.Bool.{and-false, or-true}
+use Rattle.std.proofs.lemmas.Bool.{cases_eq, cases_Bool}
 use Rattle.std.proofs.lemmas.List.{take_all}
 use Rattle.sites.specs.Bounded.{fold, every, any}
 use Rattle.sites.proofs.Tests.{T-by, T-from}
@@ -9,32 +10,30 @@ use Rattle.sites.proofs.Tests.{T-by, T-from}
 one_more : (P : ℕ → Type 0) (n : ℕ) → ((i : ℕ) → i < n → P i) → P n → (i : ℕ) → i < suc n → P i
 one_more P n below here i l = elim (cases_eq i n) [ inl e ↦ rw e here | inr ne ↦ below i (omega arith) ]
 
--- each test with what it tells, by a number where it is decided
-abbrev AnyTells : ℕ → (ℕ → Bool) → Type 0
-AnyTells n p =
-    ((any n p ≡ true) × (i : ℕ) × (i < n) × (p i ≡ true)) ⊎ ((any n p ≡ false) × ((i : ℕ) → i < n → p i ≡ false))
+-- a fold of tests by an operation that one value stops: it is stopped by some number below n, or goes on at each
+module _ (op : Bool → Bool → Bool) (stop on : Bool) (cases : (x : Bool) → (x ≡ stop) ⊎ (x ≡ on))
+    (left : (x : Bool) → op stop x ≡ stop) (right : (x : Bool) → op x stop ≡ stop) (both : op on on ≡ on) where
+  abbrev Tells : ℕ → (ℕ → Bool) → Type 0
+  Tells n p = ((fold op on n p ≡ stop) × (i : ℕ) × (i < n) × (p i ≡ stop)) ⊎ ((fold op on n p ≡ on) × ((i : ℕ) → i < n → p i ≡ on))
 
-pub any_tells : (n : ℕ) (p : ℕ → Bool) → AnyTells n p
-any_tells zero p = inr (refl, λ i l. absurd (omega arith))
-any_tells (suc n) p = go (any_tells n p) (cases_Bool (p n))
-  where
-    go : AnyTells n p → (p n ≡ true) ⊎ (p n ≡ false) → AnyTells (suc n) p
-    go (inl w) h = inl (or_left _ _ w.0, w.1, omega arith, w.3)
-    go (inr r) (inl e) = inl (or_right _ _ e, n, omega arith, e)
-    go (inr r) (inr e) = inr (or_from _ _ r.0 e, one_more (λ i. p i ≡ false) n r.1 e)
+  tells : (n : ℕ) (p : ℕ → Bool) → Tells n p
+  tells zero p = inr (refl, λ i l. absurd (omega arith))
+  tells (suc n) p = go (tells n p) (cases (p n))
+    where
+      go : Tells n p → (p n ≡ stop) ⊎ (p n ≡ on) → Tells (suc n) p
+      go (inl w) h = inl (ap (λ x. op x (p n)) w.0 ∙ left (p n), w.1, omega arith, w.3)
+      go (inr r) (inl e) = inl (ap (op (fold op on n p)) e ∙ right (fold op on n p), n, omega arith, e)
+      go (inr r) (inr e) = inr (ap₂ op r.0 e ∙ both, one_more (λ i. p i ≡ on) n r.1 e)
 
-abbrev EveryTells : ℕ → (ℕ → Bool) → Type 0
-EveryTells n p =
-    ((every n p ≡ false) × (i : ℕ) × (i < n) × (p i ≡ false)) ⊎ ((every n p ≡ true) × ((i : ℕ) → i < n → p i ≡ true))
+swapped : (x : Bool) → (x ≡ false) ⊎ (x ≡ true)
+swapped true = inr refl
+swapped false = inl refl
 
-pub every_tells : (n : ℕ) (p : ℕ → Bool) → EveryTells n p
-every_tells zero p = inr (refl, λ i l. absurd (omega arith))
-every_tells (suc n) p = go (every_tells n p) (cases_Bool (p n))
-  where
-    go : EveryTells n p → (p n ≡ true) ⊎ (p n ≡ false) → EveryTells (suc n) p
-    go (inl w) h = inl (and_left _ _ w.0, w.1, omega arith, w.3)
-    go (inr r) (inr e) = inl (and_right _ _ e, n, omega arith, e)
-    go (inr r) (inl e) = inr (and_from _ _ r.0 e, one_more (λ i. p i ≡ true) n r.1 e)
+pub any_tells : (n : ℕ) (p : ℕ → Bool) → ((any n p ≡ true) × (i : ℕ) × (i < n) × (p i ≡ true)) ⊎ ((any n p ≡ false) × ((i : ℕ) → i < n → p i ≡ false))
+any_tells = tells ◌||◌ true false cases_Bool (λ x. refl) or-true refl
+
+pub every_tells : (n : ℕ) (p : ℕ → Bool) → ((every n p ≡ false) × (i : ℕ) × (i < n) × (p i ≡ false)) ⊎ ((every n p ≡ true) × ((i : ℕ) → i < n → p i ≡ true))
+every_tells = tells ◌&&◌ false true swapped (λ x. refl) and-false refl
 
 -- the same of a test that holds
 pub every_at : (n : ℕ) (p : ℕ → Bool) → T (every n p) → (i : ℕ) → i < n → T (p i)
