@@ -1,8 +1,10 @@
-// Joins three block stores over lent memory in a row, and tells what it asks of them and what it sees.
+// Joins three block stores over lent memory in a row, and tells what it asks of them and what it sees. Then asks quorum rules.
 
 #![tactic(auto)]
 
 mod outcome;
+mod rules;
+mod show;
 mod teller;
 
 use log_store::LogStore;
@@ -113,7 +115,8 @@ fn main(rt: HostRuntime) -> io::Result<()> {
     let mut b = [0; LOG_LEN];
     let mut c = [0; SLOTS_LEN];
     match join(&mut a, &mut b, &mut c) {
-        Ok(row) => Teller { rt: &rt, row }.tell(),
-        Err(refusal) => println!(&rt; "refused, {refusal}"),
+        Ok(row) => Teller { rt: &rt, row }.tell()?,
+        Err(refusal) => println!(&rt; "refused, {refusal}")?,
     }
+    rules::tell(&rt)
 }
