@@ -2,7 +2,7 @@ ghost use Rattle.std.specs.Prelude.{◌≡◌, ℕ, ◌*◌, ◌≤◌, length, 
 ghost use Rattle.std.specs.List.{enumerate_from};
 ghost use Rattle.std.specs.Result.{result_err};
 ghost use Rattle.sites.specs.Sites.{max_sites, members};
-ghost use Rattle.quorum.specs.Votes.{votes_of, others, all_votes, small_votes, fair, votes_rule, votes_refusal, votes_in, rule_of_votes};
+ghost use Rattle.quorum.specs.Votes.{all_votes, small_votes, fair, votes_rule, votes_refusal, votes_in, rule_of_votes};
 ghost use Rattle.quorum.specs.Tallies.{guarded_lawful};
 
 use crate::rule::{QuorumRule, check_sites};
@@ -87,14 +87,6 @@ impl WeightedVotes {
             .sum()
     }
 
-    // The votes of the sites outside a set.
-    #[tactic(auto, using(crate::proofs::Listed::tallies))]
-    fn outside(&self, set: SiteSet) -> usize
-        ensures { result ≡ votes_of (votes_in self.now) (others (members set)) }
-    {
-        self.all() - self.inside(set)
-    }
-
     // Whether no site has too many votes.
     #[tactic(auto, using(crate::proofs::Listed::small_tells))]
     fn is_small(&self) -> bool
@@ -115,7 +107,7 @@ impl WeightedVotes {
     }
 }
 
-#[tactic(auto, using(crate::proofs::Listed::votes_listed))]
+#[tactic(auto, using(crate::proofs::Listed::tallies))]
 impl QuorumRule for WeightedVotes {
     ghost meaning = { rule_of_votes };
 
@@ -132,9 +124,8 @@ impl QuorumRule for WeightedVotes {
 
     // What it asks of the votes outside holds whenever the thresholds are fair; it keeps the rule lawful for any numbers.
     fn may_write(&self, set: SiteSet) -> bool {
-        let outside = self.outside(set);
-        self.inside(set) > self.write_above
-            && outside <= self.read_above
-            && outside <= self.write_above
+        let inside = self.inside(set);
+        let outside = self.all() - inside;
+        inside > self.write_above && outside <= self.read_above && outside <= self.write_above
     }
 }

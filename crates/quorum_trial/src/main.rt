@@ -4,7 +4,6 @@
 
 mod rules;
 mod sets;
-mod show;
 
 use std::io;
 

@@ -1,5 +1,4 @@
 // Quorum rules at the edges of what they take, asked for every set of sites.
-use crate::show::Votes;
 use quorum::{GridQuorum, QuorumRule, WeightedVotes};
 use refusal::Refusal;
 use sites::{SiteBits, SiteSet};
@@ -81,8 +80,11 @@ fn outcome<Q: QuorumRule + Drop>(rt: &impl Print, made: Result<Q, Refusal>) -> i
 
 fn votes(rt: &impl Print) -> io::Result<()> {
     for (votes, read_above, write_above) in VOTES {
-        let counts = Votes(votes);
-        print!(rt; "{counts} above {read_above} and {write_above}: ")?;
+        print!(rt; "votes")?;
+        for count in votes {
+            print!(rt; " {count}")?;
+        }
+        print!(rt; " above {read_above} and {write_above}: ")?;
         outcome(rt, WeightedVotes::new(votes, read_above, write_above))?;
     }
     Ok(())
