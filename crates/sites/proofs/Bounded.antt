@@ -10,7 +10,7 @@ use Rattle.sites.proofs.Tests.{T-by, T-from}
 one_more : (P : ℕ → Type 0) (n : ℕ) → ((i : ℕ) → i < n → P i) → P n → (i : ℕ) → i < suc n → P i
 one_more P n below here i l = elim (cases_eq i n) [ inl e ↦ rw e here | inr ne ↦ below i (omega arith) ]
 
--- a fold of tests by an operation that one value stops: it is stopped by some number below n, or goes on at each
+-- a fold of tests by an operation that one value stops: it is `stop`, with some number below n where the test is, or it is `on`, and so is each test
 module _ (op : Bool → Bool → Bool) (stop on : Bool) (cases : (x : Bool) → (x ≡ stop) ⊎ (x ≡ on))
     (left : (x : Bool) → op stop x ≡ stop) (right : (x : Bool) → op x stop ≡ stop) (both : op on on ≡ on) where
   abbrev Tells : ℕ → (ℕ → Bool) → Type 0
@@ -25,15 +25,16 @@ module _ (op : Bool → Bool → Bool) (stop on : Bool) (cases : (x : Bool) → 
       go (inr r) (inl e) = inl (ap (op (fold op on n p)) e ∙ right (fold op on n p), n, omega arith, e)
       go (inr r) (inr e) = inr (ap₂ op r.0 e ∙ both, one_more (λ i. p i ≡ on) n r.1 e)
 
-swapped : (x : Bool) → (x ≡ false) ⊎ (x ≡ true)
-swapped true = inr refl
-swapped false = inl refl
+-- the cases of a test, false first
+false_first : (x : Bool) → (x ≡ false) ⊎ (x ≡ true)
+false_first true = inr refl
+false_first false = inl refl
 
 pub any_tells : (n : ℕ) (p : ℕ → Bool) → ((any n p ≡ true) × (i : ℕ) × (i < n) × (p i ≡ true)) ⊎ ((any n p ≡ false) × ((i : ℕ) → i < n → p i ≡ false))
 any_tells = tells ◌||◌ true false cases_Bool (λ x. refl) or-true refl
 
 pub every_tells : (n : ℕ) (p : ℕ → Bool) → ((every n p ≡ false) × (i : ℕ) × (i < n) × (p i ≡ false)) ⊎ ((every n p ≡ true) × ((i : ℕ) → i < n → p i ≡ true))
-every_tells = tells ◌&&◌ false true swapped (λ x. refl) and-false refl
+every_tells = tells ◌&&◌ false true false_first (λ x. refl) and-false refl
 
 -- the same of a test that holds
 pub every_at : (n : ℕ) (p : ℕ → Bool) → T (every n p) → (i : ℕ) → i < n → T (p i)

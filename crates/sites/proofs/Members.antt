@@ -1,5 +1,5 @@
 -- What the operations on bits do to the sites that the bits stand for.
-use Rattle.std.proofs.Common.{◌≡◌, ℕ, ◌+◌, ◌-◌, ◌*◌, ◌/◌, ◌%◌, ◌^◌, ◌<◌, ◌≤◌, Bool, true, false, cond, not, ◌&&◌, ◌||◌, T, eqb, ltb, sym, refl, ap, ◌∙◌, ap₂, arith, ltb→lt}
+use Rattle.std.proofs.Common.{rules, ◌≡◌, ℕ, ◌+◌, ◌-◌, ◌*◌, ◌/◌, ◌%◌, ◌^◌, ◌<◌, ◌≤◌, Bool, true, false, cond, not, ◌&&◌, ◌||◌, T, eqb, ltb, sym, refl, ap, ◌∙◌, ap₂, arith, ltb→lt}
 use mathlib.Core.Path.{fun_ext}
 use lib.Bits.{bit_and, bit_or}
 use lib.Count.{ones}
@@ -7,7 +7,7 @@ use Rattle.std.proofs.lemmas.Nat.{pow_below, one_shl}
 use Rattle.std.proofs.lemmas.Bool.{lt-ltb, le-ltb}
 use Rattle.std.proofs.lemmas.Bool.Decides.{nat_tests}
 use Rattle.sites.specs.Bounded.{implies, put}
-use Rattle.sites.specs.Sites.{Sites, SameBelow, max_sites, within, bit_at, sites_in, bits_of, size, subset}
+use Rattle.sites.specs.Sites.{Sites, SameBelow, max_sites, within, SetsAreTold, bit_at, sites_in, bits_of, size, subset}
 use Rattle.sites.proofs.Bits.{shifted_bit, or_bit, and_bit, power_bit, low_bit, flip_bit, bits_value, bits_count, bits_subset}
 use Rattle.sites.proofs.Bounded.{fold_cong}
 
@@ -29,7 +29,7 @@ pub sites_below : (n : ℕ) → n < max_sites → sites_in (1 * 2 ^ n % 2 ^ max_
 unfolding sites_in
 sites_below n l = ap (λ x. sites_in (x - 1)) (one_shl n max_sites l) ∙ within_same (bit_at (2 ^ n - 1)) (λ i. ltb i n) (λ i _. low_bit n i)
 
--- an equation names the bits, so that `grind` finds the number
+-- an equation names the bits, since `grind` meets them as a numeral and not as a power of 2 less 1
 pub sites_all : (b n : ℕ) → b ≡ 2 ^ max_sites - 1 → max_sites ≤ n → sites_in b ≡ within (λ i. ltb i n)
 unfolding sites_in
 sites_all b n e h =
@@ -109,6 +109,10 @@ module _ (b : ℕ) (h : b < 2 ^ max_sites) where
   sites_subset c k =
       bits_subset max_sites b c h k ∙
       fold_cong ◌&&◌ true max_sites _ _ (λ i l. ap₂ implies (sym (within_at (bit_at b) i l)) (sym (within_at (bit_at c) i l)))
+
+-- so a set is told by its members
+pub sets_told : SetsAreTold
+sets_told a b h l e = let n : a.0 ≡ b.0 = sites_value a.0 h ∙ (ap bits_of e ∙ sym (sites_value b.0 l)) in search (rules, n)
 
 -- what the methods of `SiteSet` leave to be shown
 pub ruleset site_bits =

@@ -31,6 +31,10 @@ sites_in bits = within (bit_at bits)
 abbrev pub members : SiteSet → Sites
 members s = sites_in s.0
 
+-- a set is told by its members: two that have the same are one
+abbrev pub SetsAreTold : Type 0
+SetsAreTold = (a b : SiteSet) → a.0 < 2 ^ max_sites → b.0 < 2 ^ max_sites → members a ≡ members b → a ≡ b
+
 -- the number whose bits are set for the members below the limit
 unfoldable pub bits_of : Sites → ℕ
 bits_of s = total max_sites (λ i. cond (s i) (2 ^ i) 0)

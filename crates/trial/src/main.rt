@@ -1,4 +1,5 @@
-// Joins three block stores over lent memory in a row, and tells what it asks of them and what it sees. Then asks quorum rules.
+// Joins three block stores over lent memory in a row, and tells what it asks of them and what it sees. Then asks quorum rules which sets of sites
+// they allow.
 
 #![tactic(auto)]
 
