@@ -1,12 +1,14 @@
 -- What the records hold after one was laid, or copied over another.
 use Rattle.std.proofs.Common.{◌≡◌, ℕ, ◌+◌, ◌-◌, ◌*◌, ◌^◌, ◌<◌, ◌≤◌, List, ◌++◌, length, take, drop, sym, ap, ◌∙◌, inl, inr, ⊎_elim, arith}
 use lib.Seq.{sets, sets-eq, length-sets}
+use borrow.Rule.Slice.PartMut.{put_mid}
+use Rattle.std.proofs.lemmas.List.{length-take, length-drop}
 use Rattle.std.proofs.lemmas.List.Edits.{length-between}
 use Rattle.std.proofs.lemmas.Bool.{cases_order}
 use Rattle.std.specs.List.{between, copy_within}
 use Rattle.store.specs.Bytes.{number, number_at}
 use Rattle.store.specs.Stores.{kept}
-use Rattle.store.proofs.Writes.{Alike, Apart, alike_then, alike_between, alike_number, alike_first, sets_apart, sets_alike, between-sets, number-sets}
+use Rattle.store.proofs.Writes.{Alike, Apart, alike_then, alike_between, alike_number, alike_first, sets_apart, sets_alike, sets_part, part_whole, between-sets, number-sets}
 use Rattle.log_store.specs.Records.{index_at, copy_at, with_record, with_copied}
 
 -- a part that is copied within the memory is laid over another
@@ -20,6 +22,23 @@ copied_is m q r i j to e f g h l =
     rw (n, e, g) (ap (λ x. take (r * 132) m ++ take x (drop (q * 132) m) ++ drop (r * 132 + 132) m) (sym n') ∙
     (ap (λ x. take (r * 132) m ++ between (q * 132) (q * 132 + 132) m ++ drop (r * 132 + x) m) (sym k) ∙
     sym (sets-eq (between (q * 132) (q * 132 + 132) m) m (r * 132) t)))
+
+-- a record that is laid over a part of its size lies in the whole
+pub put_record : (m part : List ℕ) (at n r i v : ℕ) (bytes : List ℕ) → at + n ≤ length m → n ≡ 132 → at ≡ r * 132 → length bytes ≡ 128 →
+    part ≡ sets (sets (sets (take n (drop at m)) 0 (number i)) 2 (number v)) 4 bytes → put_mid at n m part ≡ with_record m r i v bytes
+put_record m part at n r i v bytes h e f l p =
+    let old : List ℕ = take n (drop at m) in
+    let begun : List ℕ = sets old 0 (number i) in
+    let headed : List ℕ = sets begun 2 (number v) in
+    let w : length old ≡ n = simp (length-take, length-drop) (omega arith) in
+    let y : length begun ≡ n = length-sets old 0 (number i) ∙ w in
+    let z : length headed ≡ n = length-sets begun 2 (number v) ∙ y in
+    let k : at + 0 ≡ at = omega arith in
+    rw (sym f) (ap (put_mid at n m) p ∙
+    (sets_part bytes m headed at n 4 (omega arith) (omega arith) ∙
+    ap (λ t. sets t (at + 4) bytes) (sets_part (number v) m begun at n 2 (omega arith) (omega arith) ∙
+    ap (λ t. sets t (at + 2) (number v)) (sets_part (number i) m old at n 0 (omega arith) (omega arith) ∙
+    (ap (λ q. sets (put_mid at n m old) q (number i)) k ∙ ap (λ t. sets t at (number i)) (part_whole m at n))))))
 
 -- record r of one memory is record q of another
 pub record Same (m m' : List ℕ) (r q : ℕ) : Type 0 where

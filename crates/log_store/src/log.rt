@@ -60,7 +60,7 @@ impl<'a> LogStore<'a> {
     }
 
     // The newest record of a block. By a `for`, since the check does not follow `find` from the last number down.
-    #[tactic(auto, using(crate::proofs::Remembering::logged))]
+    #[tactic(auto, using(crate::proofs::Remembering::logged, store::proofs::Writes::number_of_part))]
     fn newest(&self, index: usize) -> Option<usize>
         ensures found { result ≡ newest_in (log_of self.now).memory (log_of self.now).half (record_count (log_of self.now)) index }
         ensures within { IfSome result (λ at. at * 132 + 132 ≤ length (log_of self.now).memory) }
@@ -68,7 +68,8 @@ impl<'a> LogStore<'a> {
         let first = self.first_in(self.half);
         for at in (0..self.record_count()).rev() {
             let record = first + at;
-            if usize::from(number_at(self.memory, record * RECORD_LEN)) == index {
+            let from = record * RECORD_LEN;
+            if usize::from(number_at(&self.memory[from..from + 2], 0)) == index {
                 return Some(record);
             }
         }
@@ -76,13 +77,16 @@ impl<'a> LogStore<'a> {
     }
 
     // The copy of a block that is there: the one in its newest record, or an unwritten one where it has none.
-    #[tactic(auto, using(crate::proofs::Remembering::logged))]
+    #[tactic(auto, using(crate::proofs::Remembering::logged, store::proofs::Writes::copy_of_part))]
     fn found(&self, index: usize) -> BlockCopy<'_>
         requires { index < block_count (log_of self.now) }
         ensures { as_copy result ≡ slice_index_or (log_copies (log_of self.now)) index unwritten }
     {
         match self.newest(index) {
-            Some(at) => BlockCopy::from_bytes(self.memory, at * RECORD_LEN + 2).unwrap(),
+            Some(at) => {
+                let from = at * RECORD_LEN + 2;
+                BlockCopy::from_bytes(&self.memory[from..from + COPY_LEN], 0).unwrap()
+            }
             None => BlockCopy::unwritten(),
         }
     }

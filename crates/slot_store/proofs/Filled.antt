@@ -71,6 +71,12 @@ module _ (m : List ℕ) (i v : ℕ) (bytes : List ℕ) (h : i < slots_in (length
       (λ ne. slot_other j ne j' ∙ (sym (get_or-slots m j j') ∙ sym (get_or-set_other (slot_copies m) i j (kept v bytes) unwritten ne)))
       (cases_eq j i))
 
+-- the same of memory that is said to be the filled one, for a copy as a store has it
+pub slots_after : (m m' : List ℕ) (i v : ℕ) (bytes : List ℕ) → m' ≡ with_slot m i v bytes → i < slots_in (length m) → v < 2 ^ 16 → length bytes ≡ 128 →
+    (v ≡ 0 → bytes ≡ blank) → slot_copies m' ≡ set (slot_copies m) i (record { version = v; bytes = bytes })
+slots_after m m' i v bytes e h f k n =
+    ap slot_copies e ∙ (slots_set m i v bytes h f k ∙ ap (set (slot_copies m) i) (kept_whole v bytes n))
+
 -- clearing slot after slot
 module _ (m : List ℕ) where
   pub length-cleared : (n : ℕ) → length (cleared_below n m) ≡ length m

@@ -47,23 +47,25 @@ impl<'a> SlotStore<'a> {
     }
 
     // The copy in a slot.
-    #[tactic(auto, using(crate::proofs::Filled::filled))]
+    #[tactic(auto, using(crate::proofs::Filled::filled, store::proofs::Writes::copy_of_part))]
     fn slot(&self, index: usize) -> BlockCopy<'_>
         requires { index < slots_in (length self.now.memory.now) }
         ensures { as_copy result ≡ slice_index_or (slot_copies self.now.memory.now) index unwritten }
     {
-        BlockCopy::from_bytes(self.memory, index * COPY_LEN).unwrap()
+        let at = index * COPY_LEN;
+        BlockCopy::from_bytes(&self.memory[at..at + COPY_LEN], 0).unwrap()
     }
 
     // Fills a slot.
-    #[tactic(auto, using(crate::proofs::Filled::filled))]
+    #[tactic(auto, using(crate::proofs::Filled::filled, crate::proofs::Filled::slots_after, store::proofs::Writes::put_copy))]
     fn fill(&mut self, index: usize, copy: BlockCopy)
         requires { index < slots_in (length self.old.memory.now) }
         ensures memory { self.new.memory.now ≡ with_slot self.old.memory.now index copy.entry.version copy.entry.bytes.now }
         ensures copies { slot_copies self.new.memory.now ≡ slice_set (slot_copies self.old.memory.now) index (as_copy copy.entry) }
         ensures lender { self.new.memory.ghost_name ≡ self.old.memory.ghost_name }
     {
-        copy.put(self.memory, index * COPY_LEN);
+        let at = index * COPY_LEN;
+        copy.put(&mut self.memory[at..at + COPY_LEN], 0);
     }
 }
 

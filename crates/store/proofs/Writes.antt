@@ -5,8 +5,10 @@ use borrow.Rule.Slice.PartMut.{put_mid}
 use Rattle.std.specs.List.{between}
 use Rattle.std.proofs.lemmas.List.Edits.{length-between, get_or-between}
 use Rattle.std.proofs.lemmas.Bool.{cases_lt}
-use Rattle.std.proofs.lemmas.List.{ext_get_or, length-set, length-take, set_past, take_all}
+use Rattle.std.proofs.lemmas.List.{ext_get_or, length-set, length-take, length-drop, set-append_left, set-append_right, set_past, take-append-drop, take_all}
 use Rattle.store.specs.Bytes.{number, number_at}
+use Rattle.store.specs.Copies.{copy_from}
+use Rattle.store.specs.Stores.{kept}
 
 -- a write to a part, as the checker has it, is byte after byte
 pub put_is_sets : (m : List ℕ) (at : ℕ) (bs : List ℕ) → at + length bs ≤ length m → put_mid at (at + length bs - at) m bs ≡ sets m at bs
@@ -36,6 +38,41 @@ put_fitting m bs part at n l e p =
     rw p (ap (λ k. put_mid at (at + k - at) m (take n bs)) (sym k) ∙
     (put_is_sets m at (take n bs) (omega (arith, k, e)) ∙
     sets_fitting n bs m at (⊎_elim (λ h. inl (omega (arith, e))) (λ h. inr h) (cases_lt n (length bs)))))
+
+-- bytes that are laid in a part lie in the whole
+set_part : (m xs : List ℕ) (a n k b : ℕ) → a ≤ length m → k < length xs → put_mid a n m (set xs k b) ≡ set (put_mid a n m xs) (a + k) b
+set_part m xs a n k b h l =
+    let rest : List ℕ = drop n (drop a m) in
+    let e : a + k - a ≡ k = omega arith in
+    let w : length (take a m) ≡ a = simp length-take (omega arith) in
+    sym (set-append_right (take a m) (xs ++ rest) a (a + k) b w (omega arith) ∙
+    (ap (λ i. take a m ++ set (xs ++ rest) i b) e ∙ ap (λ t. take a m ++ t) (set-append_left xs rest k b l)))
+
+pub sets_part : (bs m xs : List ℕ) (a n k : ℕ) → a ≤ length m → k + length bs ≤ length xs →
+    put_mid a n m (sets xs k bs) ≡ sets (put_mid a n m xs) (a + k) bs
+sets_part [] m xs a n k h l = refl
+sets_part (b ∷ bs) m xs a n k h l =
+    let e : a + suc k ≡ suc (a + k) = omega arith in
+    sets_part bs m (set xs k b) a n (suc k) h (omega (arith, length-set xs k b)) ∙
+    (ap (λ i. sets (put_mid a n m (set xs k b)) i bs) e ∙ ap (λ t. sets t (suc (a + k)) bs) (set_part m xs a n k b h (omega arith)))
+
+-- a part that stays leaves the whole as it is
+pub part_whole : (m : List ℕ) (a n : ℕ) → put_mid a n m (take n (drop a m)) ≡ m
+part_whole m a n = ap (λ t. take a m ++ t) (take-append-drop n (drop a m)) ∙ take-append-drop a m
+
+-- a copy that is laid over a part of its size lies in the whole
+pub put_copy : (m part : List ℕ) (at n v : ℕ) (bytes : List ℕ) → at + n ≤ length m → n ≡ 130 → length bytes ≡ 128 →
+    part ≡ sets (sets (take n (drop at m)) 0 (number v)) 2 bytes → put_mid at n m part ≡ sets (sets m at (number v)) (at + 2) bytes
+put_copy m part at n v bytes h e l p =
+    let old : List ℕ = take n (drop at m) in
+    let begun : List ℕ = sets old 0 (number v) in
+    let w : length old ≡ n = simp (length-take, length-drop) (omega arith) in
+    let z : length begun ≡ n = length-sets old 0 (number v) ∙ w in
+    let i : at + 0 ≡ at = omega arith in
+    ap (put_mid at n m) p ∙
+    (sets_part bytes m begun at n 2 (omega arith) (omega arith) ∙
+    ap (λ t. sets t (at + 2) bytes) (sets_part (number v) m old at n 0 (omega arith) (omega arith) ∙
+    (ap (λ k. sets (put_mid at n m old) k (number v)) i ∙ ap (λ t. sets t at (number v)) (part_whole m at n))))
 
 -- the largest place stands for any that is larger
 pub sets_saturated : (bs m : List ℕ) (at place : ℕ) → length m < 2 ^ 64 → place ≡ min at (2 ^ 64 - 1) → sets m place bs ≡ sets m at bs
@@ -78,6 +115,34 @@ module _ {n a b : ℕ} {m m' : List ℕ} (s : Alike n a b m m') where
   -- at the start itself
   pub alike_first : 2 ≤ n → number_at m a ≡ number_at m' b
   alike_first h = ap (number_at m) (omega arith) ∙ (alike_number 0 h ∙ ap (number_at m') (omega arith))
+
+-- a part is alike the place that it was taken from
+part_like : (m : List ℕ) (at n : ℕ) → at + n ≤ length m → Alike n 0 at (between at (at + n) m) m
+part_like m at n h =
+    let w : length (between at (at + n) m) ≡ n = length-between m at (at + n) h ∙ omega arith in
+    record {
+      within = omega arith;
+      within' = h;
+      byte = λ k l. ap (λ i. get_or (between at (at + n) m) i 0) (omega arith) ∙ get_or-between m at (at + n) k 0 (omega arith);
+    }
+
+-- so a number and a copy that are taken from a part of their size are those in the whole
+pub number_of_part : (m : List ℕ) (at : ℕ) → at + 2 ≤ length m → number_at (between at (at + 2) m) 0 ≡ number_at m at
+number_of_part m at h = alike_first (part_like m at 2 h) (omega arith)
+
+pub copy_of_part : (m : List ℕ) (at : ℕ) → at + 130 ≤ length m → copy_from (between at (at + 130) m) 0 ≡ copy_from m at
+copy_of_part m at h =
+    let s : Alike 130 0 at (between at (at + 130) m) m = part_like m at 130 h in
+    ap (λ v. kept v (between 2 130 (between at (at + 130) m))) (alike_first s (omega arith)) ∙
+    ap (kept (number_at m at)) (alike_between s 2 130 (omega arith))
+
+-- the same where the part is taken apart
+pub copy_part : (m part : List ℕ) (at : ℕ) → at + 130 ≤ length m → part ≡ between at (at + 130) m → kept (number_at part 0) (drop 2 part) ≡ copy_from m at
+copy_part m part at h e =
+    let old : List ℕ = between at (at + 130) m in
+    let w : length old ≡ 130 = length-between m at (at + 130) h ∙ omega arith in
+    let b : drop 2 old ≡ between 2 130 old = sym (take_all 128 (drop 2 old) (simp length-drop (omega arith))) in
+    ap (λ t. kept (number_at t 0) (drop 2 t)) e ∙ (ap (kept (number_at old 0)) b ∙ copy_of_part m at h)
 
 -- n places from a on lie apart from k places from `at` on
 abbrev pub Apart : ℕ → ℕ → ℕ → ℕ → Type 0

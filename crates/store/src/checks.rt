@@ -1,17 +1,10 @@
 ghost use Rattle.std.specs.Prelude.{◌≡◌, length, Ok, Err, MatchResult};
-ghost use Rattle.refusal.specs.declared.reason.Reason.TheVariants.{WrongLength};
 ghost use Rattle.store.specs.Copies.{as_copy};
-ghost use Rattle.store.specs.Stores.{refused_at, indexed, fitting, kept};
+ghost use Rattle.store.specs.Stores.{indexed, fitting, kept};
 
 use crate::block::BLOCK_LEN;
 use crate::copy::BlockCopy;
 use refusal::{Layer, Reason, Refusal};
-
-fn wrong_length(length: usize) -> Refusal
-    ensures { result ≡ refused_at WrongLength 0 length }
-{
-    Refusal::new(Reason::WrongLength, Layer::Part, length)
-}
 
 /// Whether a store of `count` blocks has a block `index`.
 pub fn check_index(count: usize, index: usize) -> Result<(), Refusal>
@@ -29,7 +22,7 @@ pub fn check_block(count: usize, index: usize, length: usize) -> Result<(), Refu
 {
     check_index(count, index)?;
     if length != BLOCK_LEN {
-        return Err(wrong_length(length));
+        return Err(Refusal::new(Reason::WrongLength, Layer::Part, length));
     }
     Ok(())
 }
@@ -43,6 +36,6 @@ pub fn check_write(
 ) -> Result<BlockCopy<'_>, Refusal>
     ensures { MatchResult result (λ c. fitting count index (length block.now) (kept version block.now) ≡ Ok (as_copy c)) (λ e. fitting count index (length block.now) (kept version block.now) ≡ Err e) }
 {
-    check_index(count, index)?;
-    BlockCopy::kept(version, block).ok_or(wrong_length(block.len()))
+    check_block(count, index, block.len())?;
+    Ok(BlockCopy::kept(version, block).unwrap())
 }

@@ -46,11 +46,12 @@ impl<'a> BlockCopy<'a> {
     }
 
     /// The copy that lies in bytes from a place on, if they reach so far.
+    #[tactic(auto, using(crate::proofs::Writes::copy_part))]
     pub fn from_bytes(bytes: &'a [u8], at: usize) -> Option<BlockCopy<'a>>
         ensures { MatchOption result (length bytes.now < at + 130) (λ c. (at + 130 ≤ length bytes.now) × (as_copy c ≡ copy_from bytes.now at)) }
     {
-        let block = bytes.get(at.checked_add(2)?..at.checked_add(COPY_LEN)?)?;
-        BlockCopy::kept(number_at(bytes, at), block)
+        let copy = bytes.get(at..at.checked_add(COPY_LEN)?)?;
+        BlockCopy::kept(number_at(copy, 0), &copy[2..])
     }
 
     /// Lays the copy over bytes from a place on. What would lie past the end is left out.

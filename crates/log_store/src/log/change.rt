@@ -54,7 +54,7 @@ impl<'a> LogStore<'a> {
     }
 
     // Adds a record behind the last.
-    #[tactic(auto, using(crate::proofs::Remembering::logged))]
+    #[tactic(auto, using(crate::proofs::Remembering::logged, crate::proofs::Laid::put_record))]
     fn push(&mut self, index: usize, copy: BlockCopy)
         requires index { index < 256 }
         requires room { record_count (log_of self.old) < room (log_of self.old) }
@@ -62,9 +62,10 @@ impl<'a> LogStore<'a> {
         ensures lender { self.new.memory.ghost_name ≡ self.old.memory.ghost_name }
     {
         let used = self.record_count();
-        let at = self.first_in(self.half) + used;
-        put_bytes(self.memory, at * RECORD_LEN, &(index as u16).to_be_bytes());
-        copy.put(self.memory, at * RECORD_LEN + 2);
+        let at = (self.first_in(self.half) + used) * RECORD_LEN;
+        let record = &mut self.memory[at..at + RECORD_LEN];
+        put_bytes(record, 0, &(index as u16).to_be_bytes());
+        copy.put(record, 2);
         self.used = used + 1;
     }
 
