@@ -16,7 +16,6 @@ pub struct GridQuorum {
     columns: usize,
 }
 
-#[tactic(auto, using(sites::proofs::Ranges::range_tests))]
 impl GridQuorum {
     /// The rule of a grid of `sites` sites: site i stands in column i mod `columns`.
     pub fn new(sites: usize, rows: usize, columns: usize) -> Result<GridQuorum, Refusal>
@@ -31,19 +30,25 @@ impl GridQuorum {
     }
 
     // Whether some site of a column is a member.
+    #[tactic(auto, using(crate::proofs::Stepped::any_stepped))]
     fn column_has(&self, set: SiteSet, column: usize) -> bool
         requires { column < self.now.columns }
         ensures { result ≡ column_has self.now.sites self.now.columns (members set) column }
     {
-        (0..self.sites).any(|site| site % self.columns == column && set.contains(site))
+        (column..self.sites)
+            .step_by(self.columns)
+            .any(|site| set.contains(site))
     }
 
     // Whether each site of a column is a member.
+    #[tactic(auto, using(crate::proofs::Stepped::every_stepped))]
     fn column_whole(&self, set: SiteSet, column: usize) -> bool
         requires { column < self.now.columns }
         ensures { result ≡ column_whole self.now.sites self.now.columns (members set) column }
     {
-        (0..self.sites).all(|site| site % self.columns != column || set.contains(site))
+        (column..self.sites)
+            .step_by(self.columns)
+            .all(|site| set.contains(site))
     }
 }
 

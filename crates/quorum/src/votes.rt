@@ -1,4 +1,4 @@
-ghost use Rattle.std.specs.Prelude.{◌≡◌, ℕ, ◌*◌, ◌≤◌, length, take, filter, sum, sum_by, IfOk};
+ghost use Rattle.std.specs.Prelude.{◌≡◌, ℕ, ◌*◌, ◌≤◌, length, take, cond, sum_by, IfOk};
 ghost use Rattle.std.specs.List.{enumerate_from};
 ghost use Rattle.std.specs.Result.{result_err};
 ghost use Rattle.sites.specs.Sites.{max_sites, members};
@@ -20,6 +20,35 @@ pub struct WeightedVotes {
     votes: [u8; MAX_SITES],
     read_above: usize,
     write_above: usize,
+}
+
+// The votes of all sites.
+#[tactic(auto, using(crate::proofs::Listed::all_votes_bounded))]
+fn all_votes(votes: &[u8]) -> usize
+    requires { length votes.now ≤ max_sites }
+    ensures value { result ≡ all_votes votes.now }
+    ensures most { result ≤ 255 * max_sites }
+{
+    votes.iter().map(|&count| usize::from(count)).sum()
+}
+
+// Whether no site has too many votes.
+#[tactic(auto, using(crate::proofs::Listed::small_tells))]
+fn are_small(votes: &[u8]) -> bool
+    ensures { result ≡ small_votes votes.now }
+{
+    votes.iter().all(|&count| count <= MAX_VOTES)
+}
+
+// Whether the thresholds can be exceeded, and sets that exceed them share a site.
+fn is_fair(all: usize, read_above: usize, write_above: usize) -> bool
+    requires { all ≤ 255 * max_sites }
+    ensures { result ≡ fair all read_above write_above }
+{
+    read_above < all
+        && write_above < all
+        && all <= read_above + write_above + 1
+        && all <= 2 * write_above + 1
 }
 
 // An array that begins with the votes.
@@ -44,16 +73,15 @@ impl WeightedVotes {
         ensures rule { IfOk result (λ w. rule_of_votes w ≡ votes_rule votes.now read_above write_above) }
     {
         check_sites(votes.len())?;
-        let rule = WeightedVotes {
+        if !are_small(votes) || !is_fair(all_votes(votes), read_above, write_above) {
+            return Err(Refusal::new(Reason::BadVotes, Layer::Part, 0));
+        }
+        Ok(WeightedVotes {
             sites: votes.len(),
             votes: padded(votes),
             read_above,
             write_above,
-        };
-        if !rule.is_small() || !rule.is_fair() {
-            return Err(Refusal::new(Reason::BadVotes, Layer::Part, 0));
-        }
-        Ok(rule)
+        })
     }
 
     // The votes of the sites that there are.
@@ -64,46 +92,21 @@ impl WeightedVotes {
         &self.votes[..self.sites.min(MAX_SITES)]
     }
 
-    // The votes of all sites.
-    #[tactic(auto, using(crate::proofs::Listed::all_votes_bounded))]
-    fn all(&self) -> usize
-        ensures value { result ≡ all_votes (votes_in self.now) }
-        ensures most { result ≤ 255 * max_sites }
-    {
-        let votes = self.votes();
-        votes.iter().map(|&count| usize::from(count)).sum()
-    }
-
     // The votes of a set.
     fn inside(&self, set: SiteSet) -> usize
-        ensures value { result ≡ sum_by (λ (p : ℕ × ℕ). p.1) (filter (λ (p : ℕ × ℕ). members set p.0) (enumerate_from 0 (votes_in self.now))) }
-        ensures most { result ≤ sum (votes_in self.now) }
+        ensures { result ≡ sum_by (λ (p : ℕ × ℕ). cond (members set p.0) p.1 0) (enumerate_from 0 (votes_in self.now)) }
     {
         self.votes()
             .iter()
             .enumerate()
-            .filter(|(site, _)| set.contains(*site))
-            .map(|(_, count)| usize::from(*count))
+            .map(|(site, count)| {
+                if set.contains(site) {
+                    usize::from(*count)
+                } else {
+                    0
+                }
+            })
             .sum()
-    }
-
-    // Whether no site has too many votes.
-    #[tactic(auto, using(crate::proofs::Listed::small_tells))]
-    fn is_small(&self) -> bool
-        ensures { result ≡ small_votes (votes_in self.now) }
-    {
-        self.votes().iter().all(|&count| count <= MAX_VOTES)
-    }
-
-    // Whether the thresholds can be exceeded, and sets that exceed them share a site.
-    fn is_fair(&self) -> bool
-        ensures { result ≡ fair (all_votes (votes_in self.now)) self.now.read_above self.now.write_above }
-    {
-        let all = self.all();
-        self.read_above < all
-            && self.write_above < all
-            && all <= self.read_above + self.write_above + 1
-            && all <= 2 * self.write_above + 1
     }
 }
 
@@ -125,7 +128,7 @@ impl QuorumRule for WeightedVotes {
     // What it asks of the votes outside holds whenever the thresholds are fair; it keeps the rule lawful for any numbers.
     fn may_write(&self, set: SiteSet) -> bool {
         let inside = self.inside(set);
-        let outside = self.all() - inside;
+        let outside = all_votes(self.votes()).saturating_sub(inside);
         inside > self.write_above && outside <= self.read_above && outside <= self.write_above
     }
 }

@@ -24,10 +24,14 @@ within_same s t h = fun_ext (λ i. and_under (ltb i max_sites) (s i) (t i) (λ u
 within_at : (s : Sites) (i : ℕ) → i < max_sites → within s i ≡ s i
 within_at s i l = ap (λ b. b && s i) (lt-ltb i max_sites l)
 
--- the bits below n: of `1 << n` less 1, and where n is too large for that, all
-pub sites_below : (n : ℕ) → n < max_sites → sites_in (1 * 2 ^ n % 2 ^ max_sites - 1) ≡ within (λ i. ltb i n)
+-- the bits below n
+pub sites_below : (n : ℕ) → sites_in (2 ^ n - 1) ≡ within (λ i. ltb i n)
 unfolding sites_in
-sites_below n l = ap (λ x. sites_in (x - 1)) (one_shl n max_sites l) ∙ within_same (bit_at (2 ^ n - 1)) (λ i. ltb i n) (λ i _. low_bit n i)
+sites_below n = within_same (bit_at (2 ^ n - 1)) (λ i. ltb i n) (λ i _. low_bit n i)
+
+-- as the check has them: of `1 << n` less 1, and where n is too large for that, all
+pub shl_below : (n : ℕ) → n < max_sites → sites_in (1 * 2 ^ n % 2 ^ max_sites - 1) ≡ within (λ i. ltb i n)
+shl_below n l = ap (λ x. sites_in (x - 1)) (one_shl n max_sites l) ∙ sites_below n
 
 -- an equation names the bits, since `grind` meets them as a numeral and not as a power of 2 less 1
 pub sites_all : (b n : ℕ) → b ≡ 2 ^ max_sites - 1 → max_sites ≤ n → sites_in b ≡ within (λ i. ltb i n)
@@ -50,12 +54,13 @@ site_past b i h = ap (λ x. x && bit_at b i) (le-ltb i max_sites h)
 or_put : (x y a : Bool) → (x && (a || y)) ≡ (x && cond y true (x && a))
 or_put x y a = grind arith
 
-pub sites_with : (b s : ℕ) → s < max_sites
-    → sites_in (bit_or b (1 * 2 ^ s % 2 ^ max_sites)) ≡ within (put s true (sites_in b))
+pub sites_with : (b s : ℕ) → sites_in (bit_or b (2 ^ s)) ≡ within (put s true (sites_in b))
 unfolding sites_in
-sites_with b s l = ap (λ x. sites_in (bit_or b x)) (one_shl s max_sites l) ∙ fun_ext (λ i.
-    ap (λ x. ltb i max_sites && x) (or_bit b (2 ^ s) i ∙ ap (λ x. bit_at b i || x) (power_bit s i))
-    ∙ or_put (ltb i max_sites) (eqb i s) (bit_at b i))
+sites_with b s = fun_ext (λ i.
+    ap (λ x. ltb i max_sites && x) (or_bit b (2 ^ s) i ∙ ap (λ x. bit_at b i || x) (power_bit s i)) ∙ or_put (ltb i max_sites) (eqb i s) (bit_at b i))
+
+pub shl_with : (b s : ℕ) → s < max_sites → sites_in (bit_or b (1 * 2 ^ s % 2 ^ max_sites)) ≡ within (put s true (sites_in b))
+shl_with b s l = ap (λ x. sites_in (bit_or b x)) (one_shl s max_sites l) ∙ sites_with b s
 
 -- a site is taken out
 and_put : (x y a : Bool) → (x && (a && not y)) ≡ cond y false (x && a)
@@ -116,4 +121,4 @@ sets_told a b h l e = let n : a.0 ≡ b.0 = sites_value a.0 h ∙ (ap bits_of e 
 
 -- what the methods of `SiteSet` leave to be shown
 pub ruleset site_bits =
-    (sites_below, sites_all, site_bit, site_past, sites_with, with_past, sites_without, without_past, sites_either, sites_value, sites_size, sites_subset)
+    (shl_below, sites_all, site_bit, site_past, shl_with, with_past, sites_without, without_past, sites_either, sites_value, sites_size, sites_subset)

@@ -7,20 +7,20 @@ use Rattle.std.proofs.iter.runs.Sources.{range_runs}
 use Rattle.sites.specs.Bounded.{every, any}
 use Rattle.sites.proofs.Bounded.{any_tells, every_tells}
 
--- P of every run of a range from 0 to n
-abbrev OfRuns : ℕ → (Run nat_range_steps → Type 0) → Type 0
-OfRuns n P = EveryRun nat_range_steps (λ q. q.from.start ≡ 0 → q.from.end ≡ n → P q)
+-- P of every run of a range from a to n
+abbrev pub OfRuns : ℕ → ℕ → (Run nat_range_steps → Type 0) → Type 0
+OfRuns a n P = EveryRun nat_range_steps (λ q. q.from.start ≡ a → q.from.end ≡ n → P q)
 
--- such a run comes by i, if it goes on to the end
+-- such a run from 0 comes by i, if it goes on to the end
 abbrev ComesBy : ℕ → ℕ → Type 0
-ComesBy n i = OfRuns n (λ q. q.whole ≡ true → q.at i ≡ Some i)
+ComesBy n i = OfRuns 0 n (λ q. q.whole ≡ true → q.at i ≡ Some i)
 
 -- P of each item of such a run
 abbrev OfItems : ℕ → (ℕ → Type 0) → Type 0
-OfItems n P = OfRuns n (λ q. (k : ℕ) → IfSome (q.at k) P)
+OfItems n P = OfRuns 0 n (λ q. (k : ℕ) → IfSome (q.at k) P)
 
 -- a place that reads as i holds i
-read : (o : Option ℕ) (i : ℕ) → option_map (λ y. y) o ≡ Some i → o ≡ Some i
+pub read : (o : Option ℕ) (i : ℕ) → option_map (λ y. y) o ≡ Some i → o ≡ Some i
 read None i e = e
 read (Some x) i e = e
 
@@ -31,7 +31,7 @@ comes_by n i l q _ start end whole =
     let e : q.from.start + i ≡ i = omega arith in
     read (q.at i) i (up.3 i (omega arith) ∙ ap Some e)
 
-weaker : {P Q : ℕ → Type 0} (o : Option ℕ) → ((x : ℕ) → P x → Q x) → IfSome o P → IfSome o Q
+pub weaker : {P Q : ℕ → Type 0} (o : Option ℕ) → ((x : ℕ) → P x → Q x) → IfSome o P → IfSome o Q
 weaker None h p = tt
 weaker (Some x) h p = h x p
 
