@@ -1,4 +1,5 @@
 use crate::outcome::Outcome;
+use refusal::Refusal;
 use replicas::Replicas;
 use std::io;
 use store::BLOCK_LEN;
@@ -25,22 +26,31 @@ impl<P: Print, R: Replicas> Teller<'_, P, R> {
         )
     }
 
-    // Writes the first blocks of a site, at most 236, which is as many as there are bytes from 20 on.
+    // Writes every block of a site.
     pub(crate) fn write_all(&mut self, site: usize, blocks: usize) -> io::Result<()> {
-        for (index, fill) in (0..blocks).zip(20..=u8::MAX) {
+        for index in 0..blocks {
+            let fill = u8::try_from(index.saturating_add(20)).unwrap_or(u8::MAX);
             self.write_block(site, index, 1, fill)?;
         }
         Ok(())
     }
 
+    // What a block is read as: its version, and its bytes at both ends.
+    fn look(&self, site: usize, index: usize) -> Result<(u16, u8, u8), Refusal> {
+        let version = self.row.version(site, index)?;
+        let mut block = [99; BLOCK_LEN];
+        self.row.read(site, index, &mut block)?;
+        let [first, .., last] = block;
+        Ok((version, first, last))
+    }
+
     // Reads a block, and tells its version and its bytes at both ends.
     pub(crate) fn read_block(&self, site: usize, index: usize) -> io::Result<()> {
         print!(self.rt; "read block {index} at site {site}: ")?;
-        let mut block = [99; BLOCK_LEN];
-        let read = self.row.read(site, index, &mut block);
-        let [first, .., last] = block;
-        match read.and_then(|()| self.row.version(site, index)) {
-            Ok(version) => println!(self.rt; "version {version}, from byte {first} to byte {last}"),
+        match self.look(site, index) {
+            Ok((version, first, last)) => {
+                println!(self.rt; "version {version}, from byte {first} to byte {last}")
+            }
             Err(refusal) => println!(self.rt; "refused, {refusal}"),
         }
     }
@@ -52,7 +62,7 @@ impl<P: Print, R: Replicas> Teller<'_, P, R> {
         println!(self.rt; "read block {index} at site {site} into {length} bytes: {outcome}")
     }
 
-    // Reads the first blocks of a site.
+    // Reads every block of a site.
     pub(crate) fn read_all(&self, site: usize, blocks: usize) -> io::Result<()> {
         for index in 0..blocks {
             self.read_block(site, index)?;
