@@ -8,7 +8,7 @@ use Rattle.std.proofs.lemmas.Bool.{cases_order}
 use Rattle.std.specs.List.{between, copy_within}
 use Rattle.store.specs.Bytes.{number, number_at}
 use Rattle.store.specs.Stores.{kept}
-use Rattle.store.proofs.Writes.{Alike, Apart, alike_then, alike_between, alike_number, alike_first, sets_apart, sets_alike, sets_part, part_whole, between-sets, number-sets}
+use Rattle.store.proofs.Writes.{Alike, Apart, alike_then, alike_between, alike_number, alike_first, sets_apart, sets_alike, sets_part, sets_first, between-sets, number-sets}
 use Rattle.log_store.specs.Records.{index_at, copy_at, with_record, with_copied}
 
 -- a part that is copied within the memory is laid over another
@@ -33,12 +33,10 @@ put_record m part at n r i v bytes h e f l p =
     let w : length old ≡ n = simp (length-take, length-drop) (omega arith) in
     let y : length begun ≡ n = length-sets old 0 (number i) ∙ w in
     let z : length headed ≡ n = length-sets begun 2 (number v) ∙ y in
-    let k : at + 0 ≡ at = omega arith in
     rw (sym f) (ap (put_mid at n m) p ∙
     (sets_part bytes m headed at n 4 (omega arith) (omega arith) ∙
     ap (λ t. sets t (at + 4) bytes) (sets_part (number v) m begun at n 2 (omega arith) (omega arith) ∙
-    ap (λ t. sets t (at + 2) (number v)) (sets_part (number i) m old at n 0 (omega arith) (omega arith) ∙
-    (ap (λ q. sets (put_mid at n m old) q (number i)) k ∙ ap (λ t. sets t at (number i)) (part_whole m at n))))))
+    ap (λ t. sets t (at + 2) (number v)) (sets_first m at n (number i) h (omega arith)))))
 
 -- record r of one memory is record q of another
 pub record Same (m m' : List ℕ) (r q : ℕ) : Type 0 where

@@ -45,10 +45,6 @@ votes_listed votes s =
 pub votes_split : (votes : List ℕ) (s : Sites) → votes_of votes (others s) + votes_of votes s ≡ all_votes votes
 votes_split votes s = omega (arith, split (λ i. get_or votes i 0) s (length votes))
 
--- so those of a set are no more than all
-some_votes : (votes : List ℕ) (s : Sites) → votes_of votes s ≤ all_votes votes
-some_votes votes s = omega (arith, votes_split votes s)
-
 pub ruleset tallies = (all_votes_listed, votes_listed, votes_split)
 
 -- what is not refused is fair

@@ -35,10 +35,9 @@ shl_below n l = ap (λ x. sites_in (x - 1)) (one_shl n max_sites l) ∙ sites_be
 
 -- an equation names the bits, since `grind` meets them as a numeral and not as a power of 2 less 1
 pub sites_all : (b n : ℕ) → b ≡ 2 ^ max_sites - 1 → max_sites ≤ n → sites_in b ≡ within (λ i. ltb i n)
-unfolding sites_in
 sites_all b n e h =
     ap sites_in e ∙
-    within_same (bit_at (2 ^ max_sites - 1)) (λ i. ltb i n) (λ i l. low_bit max_sites i ∙ lt-ltb i max_sites l ∙ sym (lt-ltb i n (omega arith)))
+    (sites_below max_sites ∙ within_same (λ i. ltb i max_sites) (λ i. ltb i n) (λ i l. lt-ltb i max_sites l ∙ sym (lt-ltb i n (omega arith))))
 
 -- one bit
 pub site_bit : (b i : ℕ) → i < max_sites → eqb (bit_and (b / 2 ^ i) 1) 1 ≡ sites_in b i
@@ -66,14 +65,17 @@ shl_with b s l = ap (λ x. sites_in (bit_or b x)) (one_shl s max_sites l) ∙ si
 and_put : (x y a : Bool) → (x && (a && not y)) ≡ cond y false (x && a)
 and_put x y a = grind arith
 
-pub sites_without : (b s : ℕ) → s < max_sites
-    → sites_in (bit_and b (2 ^ max_sites - 1 - 1 * 2 ^ s % 2 ^ max_sites)) ≡ put s false (sites_in b)
+pub sites_without : (b s : ℕ) → s < max_sites → sites_in (bit_and b (2 ^ max_sites - 1 - 2 ^ s)) ≡ put s false (sites_in b)
 unfolding sites_in
-sites_without b s l = ap (λ x. sites_in (bit_and b (2 ^ max_sites - 1 - x))) (one_shl s max_sites l) ∙ fun_ext (λ i.
+sites_without b s l = fun_ext (λ i.
     and_under (ltb i max_sites) (bit_at (bit_and b (2 ^ max_sites - 1 - 2 ^ s)) i) (bit_at b i && not (eqb i s)) (λ u.
     and_bit b (2 ^ max_sites - 1 - 2 ^ s) i ∙
     ap (λ x. bit_at b i && x) (flip_bit max_sites (2 ^ s) i (pow_below s max_sites l) (ltb→lt i max_sites u) ∙ ap not (power_bit s i)))
     ∙ and_put (ltb i max_sites) (eqb i s) (bit_at b i))
+
+pub shl_without : (b s : ℕ) → s < max_sites
+    → sites_in (bit_and b (2 ^ max_sites - 1 - 1 * 2 ^ s % 2 ^ max_sites)) ≡ put s false (sites_in b)
+shl_without b s l = ap (λ x. sites_in (bit_and b (2 ^ max_sites - 1 - x))) (one_shl s max_sites l) ∙ sites_without b s l
 
 -- two sets are joined
 and_or : (x a b : Bool) → (x && (a || b)) ≡ ((x && a) || (x && b))
@@ -121,4 +123,4 @@ sets_told a b h l e = let n : a.0 ≡ b.0 = sites_value a.0 h ∙ (ap bits_of e 
 
 -- what the methods of `SiteSet` leave to be shown
 pub ruleset site_bits =
-    (shl_below, sites_all, site_bit, site_past, shl_with, with_past, sites_without, without_past, sites_either, sites_value, sites_size, sites_subset)
+    (shl_below, sites_all, site_bit, site_past, shl_with, with_past, shl_without, without_past, sites_either, sites_value, sites_size, sites_subset)

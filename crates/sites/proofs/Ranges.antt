@@ -1,4 +1,4 @@
--- What `any` and `all` answer over a range from 0, in the form that `grind` takes: each test by the items of the range's runs.
+-- What `any` and `all` answer over a range from 0, in the form that `grind` takes: each test by the items of the range's runs. `OfRuns` speaks of any range.
 use Rattle.std.proofs.Common.{◌≡◌, ℕ, ◌+◌, ◌<◌, Bool, true, false, ◌⊎◌, Option, Some, None, IfSome, ap, ◌∙◌, inl, inr, arith}
 use Rattle.std.specs.Iterator.Runs.{Run, EveryRun}
 use Rattle.std.specs.Option.{option_map}

@@ -57,8 +57,17 @@ sets_part (b ∷ bs) m xs a n k h l =
     (ap (λ i. sets (put_mid a n m (set xs k b)) i bs) e ∙ ap (λ t. sets t (suc (a + k)) bs) (set_part m xs a n k b h (omega arith)))
 
 -- a part that stays leaves the whole as it is
-pub part_whole : (m : List ℕ) (a n : ℕ) → put_mid a n m (take n (drop a m)) ≡ m
+part_whole : (m : List ℕ) (a n : ℕ) → put_mid a n m (take n (drop a m)) ≡ m
 part_whole m a n = ap (λ t. take a m ++ t) (take-append-drop n (drop a m)) ∙ take-append-drop a m
+
+-- so bytes that are laid at the start of a part lie where it begins
+pub sets_first : (m : List ℕ) (at n : ℕ) (bs : List ℕ) → at + n ≤ length m → length bs ≤ n → put_mid at n m (sets (take n (drop at m)) 0 bs) ≡ sets m at bs
+sets_first m at n bs h l =
+    let old : List ℕ = take n (drop at m) in
+    let w : length old ≡ n = simp (length-take, length-drop) (omega arith) in
+    let i : at + 0 ≡ at = omega arith in
+    sets_part bs m old at n 0 (omega arith) (omega arith) ∙
+    (ap (λ k. sets (put_mid at n m old) k bs) i ∙ ap (λ t. sets t at bs) (part_whole m at n))
 
 -- a copy that is laid over a part of its size lies in the whole
 pub put_copy : (m part : List ℕ) (at n v : ℕ) (bytes : List ℕ) → at + n ≤ length m → n ≡ 130 → length bytes ≡ 128 →
@@ -68,11 +77,9 @@ put_copy m part at n v bytes h e l p =
     let begun : List ℕ = sets old 0 (number v) in
     let w : length old ≡ n = simp (length-take, length-drop) (omega arith) in
     let z : length begun ≡ n = length-sets old 0 (number v) ∙ w in
-    let i : at + 0 ≡ at = omega arith in
     ap (put_mid at n m) p ∙
     (sets_part bytes m begun at n 2 (omega arith) (omega arith) ∙
-    ap (λ t. sets t (at + 2) bytes) (sets_part (number v) m old at n 0 (omega arith) (omega arith) ∙
-    (ap (λ k. sets (put_mid at n m old) k (number v)) i ∙ ap (λ t. sets t at (number v)) (part_whole m at n))))
+    ap (λ t. sets t (at + 2) bytes) (sets_first m at n (number v) h (omega arith)))
 
 -- the largest place stands for any that is larger
 pub sets_saturated : (bs m : List ℕ) (at place : ℕ) → length m < 2 ^ 64 → place ≡ min at (2 ^ 64 - 1) → sets m place bs ≡ sets m at bs

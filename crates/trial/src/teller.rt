@@ -35,22 +35,21 @@ impl<P: Print, R: Replicas> Teller<'_, P, R> {
         Ok(())
     }
 
-    // What a block is read as: its version, and its bytes at both ends.
-    fn look(&self, site: usize, index: usize) -> Result<(u16, u8, u8), Refusal> {
+    // Reads a block into the buffer, and answers its version.
+    fn fetch(&self, site: usize, index: usize, buffer: &mut [u8]) -> Result<u16, Refusal> {
         let version = self.row.version(site, index)?;
-        let mut block = [99; BLOCK_LEN];
-        self.row.read(site, index, &mut block)?;
-        let [first, .., last] = block;
-        Ok((version, first, last))
+        self.row.read(site, index, buffer)?;
+        Ok(version)
     }
 
     // Reads a block, and tells its version and its bytes at both ends.
     pub(crate) fn read_block(&self, site: usize, index: usize) -> io::Result<()> {
         print!(self.rt; "read block {index} at site {site}: ")?;
-        match self.look(site, index) {
-            Ok((version, first, last)) => {
-                println!(self.rt; "version {version}, from byte {first} to byte {last}")
-            }
+        let mut block = [99; BLOCK_LEN];
+        let fetched = self.fetch(site, index, &mut block);
+        let [first, .., last] = block;
+        match fetched {
+            Ok(version) => println!(self.rt; "version {version}, from byte {first} to byte {last}"),
             Err(refusal) => println!(self.rt; "refused, {refusal}"),
         }
     }
